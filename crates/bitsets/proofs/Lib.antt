@@ -1,0 +1,4 @@
+pub mod Digits
+pub mod Lowest
+pub mod Members
+pub mod Words

@@ -1,0 +1,9 @@
+pub mod Accepts
+pub mod Cut
+pub mod Format
+pub mod HandText
+pub mod Joined
+pub mod Layouts
+pub mod Letters
+pub mod Listed
+pub mod Spelled

@@ -1,0 +1,9 @@
+pub mod Faults
+pub mod Fields
+pub mod Seats
+pub mod Spelling
+pub mod Deals
+pub mod Problems
+pub mod Reading
+pub mod Told
+pub mod Written
