@@ -1,10 +1,10 @@
 -- The text of an answer line.
-use Prim.Native.Nat.{ℕ}
+use Prim.Native.Nat.{ℕ, _-_}
 use mathlib.Core.Bool.{cond}
-use mathlib.Core.List.{List, [], _∷_, _++_}
+use mathlib.Core.List.{List, _++_}
 use lib.Chars.{codes}
 use lib.Dec.{eqb}
-use lib.ListN.{length}
+use lib.ListN.{length, getD, take}
 use Rattle.std.specs.Written.{decimal}
 use Rattle.std.specs.declared.result.Result.{Result}
 use Rattle.std.specs.declared.result.Result.the-variants.{Ok, Err}
@@ -15,16 +15,25 @@ use Rattle.lines.specs.Spelling.{size}
 
 -- a line less its last byte, if that is a line feed (10)
 abbrev pub line-text : List ℕ → List ℕ
-line-text [] = []
-line-text (b ∷ []) = cond (eqb b 10) [] (b ∷ [])
-line-text (b ∷ c ∷ bs) = b ∷ line-text (c ∷ bs)
+line-text line = cond (eqb (getD line (length line - 1) 0) 10) (take (length line - 1) line) line
 
--- the kind of problem, the cards of a hand, and for a plan the number of layouts
-abbrev pub deal-text : Asked → Deal → List ℕ
-deal-text tricks d = codes ",D," ++ decimal (size (d .hand0))
-deal-text (plan t) d = codes ",P," ++ (decimal (size (d .hand0)) ++ (codes "," ++ decimal (length (d .layouts))))
+-- line,E,fault,field,byte
+abbrev pub fault-text : ℕ → ℕ → ℕ → ℕ → List ℕ
+fault-text n fault field byte =
+    decimal n ++ (codes ",E," ++ (decimal fault ++ (codes "," ++ (decimal field ++ (codes "," ++ decimal byte)))))
+
+-- line,D,cards of a hand
+abbrev pub tricks-text : ℕ → ℕ → List ℕ
+tricks-text n cards = decimal n ++ (codes ",D," ++ decimal cards)
+
+-- line,P,cards of a hand,layouts
+abbrev pub plan-text : ℕ → ℕ → ℕ → List ℕ
+plan-text n cards layouts = decimal n ++ (codes ",P," ++ (decimal cards ++ (codes "," ++ decimal layouts)))
+
+abbrev pub deal-text : ℕ → Asked → Deal → List ℕ
+deal-text n tricks d = tricks-text n (size (d .hand0))
+deal-text n (plan t) d = plan-text n (size (d .hand0)) (length (d .layouts))
 
 abbrev pub answer-text : ℕ → Result Deal Fault → List ℕ
-answer-text n (Ok d) = decimal n ++ deal-text (d .asked) d
-answer-text n (Err f) =
-    decimal n ++ (codes ",E," ++ (decimal (fault-number (f .kind)) ++ (codes "," ++ (decimal (f .field) ++ (codes "," ++ decimal (f .byte))))))
+answer-text n (Ok d) = deal-text n (d .asked) d
+answer-text n (Err f) = fault-text n (fault-number (f .kind)) (f .field) (f .byte)

@@ -2,6 +2,7 @@
 
 ghost use mathlib.Core.Path.{_≡_};
 ghost use mathlib.Core.List.{map};
+ghost use lib.ListN.{length};
 ghost use Rattle.std.specs.Options.{mapped};
 ghost use Rattle.lines.specs.Deals.{Valid, seat-hand, hand-in};
 ghost use Rattle.lines.specs.Problems.{defence, deal};
@@ -63,7 +64,8 @@ impl Problem {
 
     /// The layouts: the hands of seats 1 and 3 in each.
     pub fn layouts(&self) -> &[Layout]
-        ensures { λ r. ⌜ map defence (now r) ≡ deal-of (now (self .entry)) .layouts ⌝ }
+        ensures hands { λ r. ⌜ map defence (now r) ≡ deal-of (now (self .entry)) .layouts ⌝ }
+        ensures len { λ r. ⌜ length (now r) ≡ length (deal-of (now (self .entry)) .layouts) ⌝ }
     {
         &self.parts.layouts[0..self.parts.count]
     }
