@@ -20,7 +20,13 @@ pub fn without_line_feed(line: &[u8]) -> &[u8]
     }
 }
 
-fn of_fault(heap: Global, number: u64, kind: u8, field: usize, byte: usize) -> Result<String, AllocError>
+fn of_fault(
+    heap: Global,
+    number: u64,
+    kind: u8,
+    field: usize,
+    byte: usize,
+) -> Result<String, AllocError>
     ensures { λ r. ⌜ made r (λ s. string-bytes s ≡ fault-text number kind field byte) ⌝ }
 {
     format!(heap, "{number},E,{kind},{field},{byte}")

@@ -1,0 +1,4 @@
+pub mod Scores
+pub mod Windows
+pub mod TrickScores
+pub mod FamilyScores
