@@ -6,4 +6,5 @@ pub mod Joined
 pub mod Layouts
 pub mod Letters
 pub mod Listed
+pub mod Placing
 pub mod Spelled

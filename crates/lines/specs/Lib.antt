@@ -5,5 +5,6 @@ pub mod Spelling
 pub mod Deals
 pub mod Problems
 pub mod Reading
+pub mod Places
 pub mod Told
 pub mod Written

@@ -6,6 +6,7 @@ ghost use mathlib.Core.List.{[], map};
 ghost use Prim.Native.Nat.{_≤_};
 ghost use lib.ListN.{length, take};
 ghost use Rattle.lines.specs.Fields.{here, next-spot};
+ghost use Rattle.lines.specs.Places.{Placed};
 ghost use Rattle.lines.specs.Problems.{defence, deal};
 ghost use Rattle.lines.specs.Reading.{field, hand-at, first-cards, agrees, layout-at, layouts-at, end-at, tricks-at, plan-at, read-line};
 ghost use Rattle.lines.specs.Spelling.{size};
@@ -200,10 +201,11 @@ fn parts_of(line: &[u8]) -> Result<Parts, Fault>
 }
 
 /// The problem that a line says, or its first fault from the left. A line is accepted exactly when it is the written
-/// form of a valid deal, and that deal is then the answer.
+/// form of a valid deal, and that deal is then the answer; a fault is at the byte where its field begins.
 pub fn read(line: &[u8]) -> Result<Problem, Fault>
     ensures answer { λ r. ⌜ on-ok deal-of r ≡ read-line (now (line .entry)) ⌝ }
     ensures law { λ r. ⌜ Right (now (line .entry)) (on-ok deal-of r) ⌝ }
+    ensures places { λ r. ⌜ Placed (now (line .entry)) (on-ok deal-of r) ⌝ }
 {
     let parts = parts_of(line)?;
     Ok(Problem::new(parts))
