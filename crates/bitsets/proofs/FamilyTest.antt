@@ -2,15 +2,15 @@
 use mathlib.Core.Path.{_≡_, refl, sym, ap, _∙_, subst}
 use mathlib.Core.Bool.{Bool, true, false, _&&_, Bool·beq}
 use mathlib.Core.Logic.{_⊎_, inl, inr}
-use Prim.Native.Nat.{ℕ, zero, suc, _+_, _-_, _^_, _<_, _≤_}
+use Prim.Native.Nat.{ℕ, zero, suc, _+_, _-_, _^_, _<_}
 use native.Mathlib.Omega.{arith}
-use lib.Dec.{lit<}
+use lib.Dec.{eqb, ltb, lit<}
 use lib.Bits.{bitAnd}
 use lib.Count.{ones}
-use Rattle.std.proofs.shelf.Tests.{both-ways, cases-lt, cases-eq, cases-bool, and-parts}
+use Rattle.std.proofs.shelf.Tests.{both-ways, cases-eq, and-parts, and-from, eqb-true, eq-eqb, ltb-true, lt-ltb}
 use Rattle.bitsets.specs.Sets.{has, Part}
 use Rattle.bitsets.proofs.Digits.{lacks, ones-pos, ones-sub, sub-keeps, has-zero, has-below, has-le, has-shr, sub-part, and-has, and-has-l, and-has-r, and-part, part-and, or-has, or-has-l, or-has-r}
-use Rattle.bitsets.specs.Families.{IsFamily, sets-with, without, without-one}
+use Rattle.bitsets.specs.Families.{IsFamily, sets-with, without, without-one, family-test}
 
 -- ---- parts, one member at a time
 
@@ -118,14 +118,24 @@ module _ (n : ℕ) (small : n < 2 ^ 64) where
   pub parts-by-family : IsFamily n → Part (without-one n 6) n
   parts-by-family f = less-part f 6 (lit< tt)
 
+-- ---- the test
+
+pub test-family : (n : ℕ) → family-test n ≡ true → IsFamily n
+test-family n e =
+    let (a, b) = and-parts (ltb n (2 ^ 64)) (has n 0 && eqb (bitAnd (without-one n 6) n) (without-one n 6)) e in
+    let (c, d) = and-parts (has n 0) (eqb (bitAnd (without-one n 6) n) (without-one n 6)) b in
+    family-by-parts n (ltb-true n (2 ^ 64) a) c (and-part (without-one n 6) n (eqb-true (bitAnd (without-one n 6) n) (without-one n 6) d))
+
+pub family-tests : (n : ℕ) → IsFamily n → family-test n ≡ true
+family-tests n f =
+    and-from (ltb n (2 ^ 64)) (has n 0 && eqb (bitAnd (without-one n 6) n) (without-one n 6)) (lt-ltb n (2 ^ 64) (f .small))
+    (and-from (has n 0) (eqb (bitAnd (without-one n 6) n) (without-one n 6)) (f .empty)
+    (eq-eqb (bitAnd (without-one n 6) n) (without-one n 6) (part-and (without-one n 6) n (parts-by-family n (f .small) f))))
+
+unfoldable pub family-by : (n : ℕ) (b : Bool) → family-test n ≡ b → IsFamily n ⊎ (IsFamily n → ⊥)
+family-by n true e = inl (test-family n e)
+family-by n false e = inr (λ f. both-ways (family-test n) e (family-tests n f))
+
 -- each number is a family or is not
-pub family-or-not : (n : ℕ) → IsFamily n ⊎ (IsFamily n → ⊥)
-family-or-not n = by (cases-lt n (2 ^ 64)) (cases-bool (has n 0)) (cases-eq (bitAnd (without-one n 6) n) (without-one n 6))
-  where
-    by : (n < 2 ^ 64) ⊎ (2 ^ 64 ≤ n) → (has n 0 ≡ true) ⊎ (has n 0 ≡ false)
-        → (bitAnd (without-one n 6) n ≡ without-one n 6) ⊎ (bitAnd (without-one n 6) n ≡ without-one n 6 → ⊥)
-        → IsFamily n ⊎ (IsFamily n → ⊥)
-    by (inl l) (inl e) (inl p) = inl (family-by-parts n l e (and-part (without-one n 6) n p))
-    by (inl l) (inl e) (inr p) = inr (λ f. p (part-and (without-one n 6) n (parts-by-family n l f)))
-    by (inl l) (inr e) p = inr (λ f. both-ways (has n 0) e (f .empty))
-    by (inr l) e p = inr (λ f. let m = f .small in omega arith)
+unfoldable pub family-or-not : (n : ℕ) → IsFamily n ⊎ (IsFamily n → ⊥)
+family-or-not n = family-by n (family-test n) refl

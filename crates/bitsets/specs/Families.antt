@@ -1,9 +1,10 @@
 -- Families of sets of six layouts. The layouts go by the numbers 0 to 5; a set is the sum of 2 ^ i over its layouts i,
 -- and a family the sum of 2 ^ s over its sets s.
 use mathlib.Core.Path.{_≡_}
-use mathlib.Core.Bool.{true, cond}
+use mathlib.Core.Bool.{Bool, true, cond, _&&_}
 use Prim.Native.Nat.{ℕ, zero, suc, _*_, _/_, _^_, _<_}
 use lib.Bits.{bitAnd, bitOr}
+use lib.Dec.{eqb, ltb}
 use Rattle.bitsets.specs.Sets.{has, Part}
 
 -- n is a family: it has the empty set, and each part of a set that it has
@@ -38,3 +39,7 @@ without n i = bitAnd n (sets-with i) / 2 ^ 2 ^ i
 abbrev pub without-one : ℕ → ℕ → ℕ
 without-one n zero = 0
 without-one n (suc k) = bitOr (without-one n k) (without n k)
+
+-- the test for a family by masks: it has the empty set, and each of its sets without any one layout
+abbrev pub family-test : ℕ → Bool
+family-test n = ltb n (2 ^ 64) && (has n 0 && eqb (bitAnd (without-one n 6) n) (without-one n 6))

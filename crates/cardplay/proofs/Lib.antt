@@ -1,0 +1,13 @@
+pub mod CardLaws
+pub mod Dealing
+pub mod Examples
+pub mod Checking
+pub mod Guess
+pub mod Legal
+pub mod LegalSet
+pub mod OnePlan
+pub mod PlanScores
+pub mod Reach
+pub mod Tricks
+pub mod Ways
+pub mod Winning
