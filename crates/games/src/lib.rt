@@ -4,6 +4,8 @@ ghost use mathlib.Core.Path.{_≡_};
 ghost use Rattle.games.specs.Trees.{Line, Lawful, side-of, score-of, key-of, height-of, children-of, count, can-play, after-play, can-take-back, after-take-back};
 use lattice::Lattice;
 
+pub mod evaluate;
+pub mod example;
 pub mod key;
 pub mod side;
 
@@ -48,4 +50,27 @@ pub trait Game: Sized {
     fn take_back(&mut self) -> bool
         ensures told { λ r. ⌜ r ≡ can-take-back (line (now (self .entry))) ⌝ }
         ensures goes { λ _. ⌜ line (now (self .exit)) ≡ after-take-back (line (now (self .entry))) ⌝ };
+}
+
+#[cfg(test)]
+mod tests {
+    use super::Game;
+    use super::evaluate::evaluate;
+    use super::example::Example;
+    use super::example::ExampleGame;
+    use lattice::Lattice;
+    use lattice::tricks::TricksLattice;
+    use std::test::*;
+
+    #[test]
+    fn evaluates_the_example() -> Result<(), Fail> {
+        let mut game = Example::Start;
+        let start = evaluate(&mut game);
+        check_eq(start.value.code(), 3)?;
+        check_eq(start.positions, 5)?;
+        check(game.play(1))?;
+        let left = evaluate(&mut game);
+        check_eq(left.value.code(), 2)?;
+        check_eq(left.positions, 3)
+    }
 }
