@@ -1,0 +1,3 @@
+mod Extremes
+mod Masks
+pub mod Uses
