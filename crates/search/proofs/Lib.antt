@@ -1,0 +1,10 @@
+pub mod Places
+pub mod Forests
+pub mod Folding
+pub mod Depth
+pub mod Kept
+pub mod Runs
+pub mod Finish
+pub mod Stacks
+pub mod Ways
+pub mod Loop

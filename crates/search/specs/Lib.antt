@@ -1,0 +1,4 @@
+pub mod Steps
+pub mod Invariant
+pub mod Promises
+pub mod Stacks
