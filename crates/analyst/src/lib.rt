@@ -1,6 +1,8 @@
 //! The analyst: a game with a table and a policy, and calls that search it. A search can be stopped after any step and
 //! gone on with later; whatever calls come in whatever order, no false answer is handed out.
 
+#![tactic(auto)]
+
 pub mod analyst;
 pub mod ended;
 pub mod promise;

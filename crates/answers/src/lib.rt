@@ -1,5 +1,7 @@
 //! Answer lines: what is printed for each line of an input.
 
+#![tactic(auto)]
+
 ghost use Rattle.std.specs.Prelude.{◌≡◌, IfOk, string_bytes};
 ghost use Rattle.answers.specs.Answers.{line_text, fault_text, tricks_text, plan_text, tricks_answer, plan_answer, answer_text};
 ghost use Rattle.lines.specs.Deals.{tricks, plan};

@@ -1,5 +1,7 @@
 //! Sets of numbers from 0 to 63, one bit of a word for each: cards, layouts and places of children are such numbers.
 
+#![tactic(auto)]
+
 ghost use Rattle.std.specs.Prelude.{◌≡◌, ℕ, ◌^◌, ◌<◌, ◌≤◌, false, not, ◌&&◌, ◌||◌, length, MatchOption, ◌==◌, bit_and, bit_or, nat_lt, slice_index};
 ghost use Rattle.bitsets.specs.Sets.{has, members};
 

@@ -1,6 +1,8 @@
 //! Card play: whist tricks over one to six layouts, as definitions and theorems about them.
 //! Each function here states a theorem by its contract.
 
+#![tactic(auto)]
+
 ghost use Rattle.std.specs.Prelude.{◌≡◌, true};
 ghost use Rattle.cardplay.specs.Checked.{checked, every};
 ghost use Rattle.cardplay.specs.PlanTheorem.{PlanTheorem};

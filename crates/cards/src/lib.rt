@@ -1,5 +1,7 @@
 //! Cards and sets of cards.
 
+#![tactic(auto)]
+
 pub mod card;
 pub mod set;
 

@@ -1,5 +1,7 @@
 //! Card play over the deal of a problem, and the two games that are played over it.
 
+#![tactic(auto)]
+
 pub mod course;
 pub mod plan_game;
 pub mod plans;

@@ -1,5 +1,7 @@
 //! Reads problem lines from standard input and prints an answer line for each.
 
+#![tactic(auto)]
+
 use std::io;
 use std::io::{BufRead, BufReader};
 

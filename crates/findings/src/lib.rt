@@ -1,5 +1,7 @@
 //! Lines for what the search of each line of an input finds.
 
+#![tactic(auto)]
+
 ghost use Rattle.std.specs.Prelude.{◌≡◌, IfOk, string_bytes};
 ghost use Rattle.answers.specs.Answers.{fault_text};
 ghost use Rattle.findings.specs.Findings.{answer_text};

@@ -1,5 +1,7 @@
 //! Games: what a search needs to know of one, by its meaning as a line of finite trees.
 
+#![tactic(auto)]
+
 ghost use Rattle.std.specs.Prelude.{◌≡◌};
 ghost use Rattle.games.specs.Trees.{Line, Lawful, side_of, score_of, key_of, height_of, children_of, count, can_play, after_play, can_take_back, after_take_back};
 

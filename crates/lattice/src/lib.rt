@@ -1,5 +1,7 @@
 //! Score types: bounded distributive lattices whose scores have 64-bit codes, and brackets over them.
 
+#![tactic(auto)]
+
 ghost use Rattle.std.specs.Prelude.{◌≡◌};
 ghost use Rattle.lattice.specs.Scores.{Scoring, Commutes, Associates, Absorbs, Distributes, Neutral, Orders, Fits, Reads, Exact, standing};
 

@@ -1,5 +1,7 @@
 //! The reader of problem lines.
 
+#![tactic(auto)]
+
 pub mod deal;
 pub mod fault;
 pub mod fields;

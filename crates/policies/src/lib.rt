@@ -1,5 +1,7 @@
 //! Policies: which child of a position a search takes next. Whatever the policy, the search gives the same value; a good one makes it short.
 
+#![tactic(auto)]
+
 ghost use Rattle.std.specs.Prelude.{◌≡◌};
 ghost use Rattle.policies.specs.Policies.{PolicyOps, PolicyLaws, Chosen, free};
 

@@ -1,5 +1,7 @@
 //! A search of a game by windows: one step of it, and runs of steps that can stop and go on at any point.
 
+#![tactic(auto)]
+
 pub mod engine;
 pub mod frame;
 pub mod promise;

@@ -1,6 +1,8 @@
 //! Searches the problem of each line of standard input and prints what the search found and how it went:
 //! line,kind,value,entered,used,steps,finished.
 
+#![tactic(auto)]
+
 use bitsets::BitSet;
 use deals::{PlanGame, TrickGame};
 use games::Game;

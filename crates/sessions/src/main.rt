@@ -2,6 +2,8 @@
 //! line,refusals,.. with the numbers of the calls that were refused, and line,stops,value,searches,agreed: the value
 //! without a table, the searches that were stopped, and whether every search with a table had that value.
 
+#![tactic(auto)]
+
 use analyst::Analyst;
 use bitsets::BitSet;
 use deals::{PlanGame, TrickGame};

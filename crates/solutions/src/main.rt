@@ -1,5 +1,7 @@
 //! Reads problem lines from standard input, searches each, and prints a line for what the search found.
 
+#![tactic(auto)]
+
 use std::io;
 use std::io::{BufRead, BufReader};
 

@@ -1,5 +1,7 @@
 //! Tables: what a search remembers of positions that it has valued. A table may lose claims, but it holds none that was not put.
 
+#![tactic(auto)]
+
 ghost use Rattle.std.specs.Prelude.{◌≡◌, None, Option};
 ghost use Rattle.games.specs.declared.key.Key.{Key};
 ghost use Rattle.tables.specs.Tables.{TableOps, TableLaws, Remembered};

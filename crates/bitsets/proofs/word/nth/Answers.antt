@@ -24,21 +24,21 @@ loop-passed-preserved c =
     let pos : 0 < c.loop-passed.rest = omega arith in
     let less = and_le_l c.loop-passed.rest (c.loop-passed.rest - 1) in
     let (low, left) = c.loop-passed.invariant in
-    (omega arith, pass 64 c.loop-passed.rest c.args.word c.loop-passed.-passed pos low left)
+    (omega arith, pass 64 c.loop-passed.rest c.args.word c.loop-passed._passed pos low left)
 
 pub returns-then-rest-eq0 : goal.returns-then-rest-eq0
 returns-then-rest-eq0 c =
-    none_left c.args.word c.loop-passed.-passed c.args.place (search rules)
+    none_left c.args.word c.loop-passed._passed c.args.place (search rules)
     (ap (members 64) (sym c.if-rest-eq0.true) ∙ c.loop-passed.invariant.1) (omega arith)
 
 pub returns-then-rest-eq0-2 : goal.returns-then-rest-eq0-2
 returns-then-rest-eq0-2 c =
-    none_left c.args.word c.loop-passed.-passed c.args.place (search rules)
+    none_left c.args.word c.loop-passed._passed c.args.place (search rules)
     (ap (members 64) (sym c.if-rest-eq0-2.true) ∙ c.loop-passed.invariant.1) (omega arith)
 
 pub returns-else-rest-eq0-2 : goal.returns-else-rest-eq0-2
 returns-else-rest-eq0-2 c =
-    let e : c.loop-passed.-passed ≡ c.args.place = omega arith in
+    let e : c.loop-passed._passed ≡ c.args.place = omega arith in
     let pos : 0 < c.loop-passed.rest = omega arith in
     next_one c.args.word c.args.place _ (search rules)
     (at_place 64 c.loop-passed.rest c.args.word c.args.place pos c.loop-passed.invariant.0

@@ -4,4 +4,4 @@ use Rattle.bitsets.proofs.word.nth.Given as goal
 
 -- what is left are the members from this place on
 abbrev pub invariant-loop-passed : goal.invariant-loop-passed
-invariant-loop-passed l = (l.rest < 2 ^ 64) × (members 64 l.rest ≡ drop l.-passed (members 64 l.initial.rest))
+invariant-loop-passed l = (l.rest < 2 ^ 64) × (members 64 l.rest ≡ drop l._passed (members 64 l.initial.rest))

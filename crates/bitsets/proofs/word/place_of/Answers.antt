@@ -15,11 +15,11 @@ placed x m n f l h =
     rw (one_shl m 64 b)
     (let p = place_below x m h in let s = members_length n x l in (omega arith, members_place n x m h (has_below n x m l h)))
 
-pub overflow-shl-result : goal.overflow-shl-result
-overflow-shl-result c = has_below 64 c.args.word c.args.digit (search rules) (search rules)
+pub overflow_shl-result : goal.overflow_shl-result
+overflow_shl-result c = has_below 64 c.args.word c.args.digit (search rules) (search rules)
 
-pub overflow-sub-result : goal.overflow-sub-result
-overflow-sub-result c =
+pub overflow_sub-result : goal.overflow_sub-result
+overflow_sub-result c =
     let b = has_below 64 c.args.word c.args.digit (search rules) (search rules) in
     omega (arith, one_shl c.args.digit 64 b, pow_pos c.args.digit)
 
