@@ -6,12 +6,13 @@ use types.Logic.{Logic}
 use contract.Running.{Running}
 use denote.RattleType.{RattleType}
 use mir.Syntax.{Dict}
+use Rattle.std.specs.declared.clone.Clone.{Ghosts as CloneGhosts}
 use Rattle.lattice.specs.declared.Lattice.{Ghosts}
 use Rattle.lattice.specs.contracts.Lattice.TheBound.{Met}
 use Rattle.lattice.specs.Scores.{Laws}
 
 pub laws_of : {M : Type 1} {𝓤 : Ura M} {𝓛 : Logic 𝓤} {𝓜 : Model 𝓤 𝓛.H} {𝓡 : Running 𝓤 𝓛.H 𝓜} {γ : Env}
-    {S : RattleType} {ghosts : Ghosts S.Denot} {d : Dict} → Met 𝓛 𝓜 𝓡 γ S ghosts d → Laws ghosts.scoring
+    {S : RattleType} {ghosts : Ghosts S.Denot} {clone : CloneGhosts S.Denot} {d : Dict} → Met 𝓛 𝓜 𝓡 γ S ghosts clone d → Laws ghosts.scoring
 laws_of m = record {
   join_commutes = m.join_commutes;
   join_associates = m.join_associates;

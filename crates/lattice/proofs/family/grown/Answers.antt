@@ -2,8 +2,8 @@ use Rattle.std.proofs.Common.{arith}
 use Rattle.lattice.proofs.FamilyDoubling.{parts_with, parts_without, layout_shift}
 use Rattle.lattice.proofs.family.grown.Goals as goal
 
-pub overflow-shl-result-then-contains : goal.overflow-shl-result-then-contains
-overflow-shl-result-then-contains c = omega (arith, layout_shift c.args.layout c.requires.0)
+pub overflow_shl-result-then-contains : goal.overflow_shl-result-then-contains
+overflow_shl-result-then-contains c = omega (arith, layout_shift c.args.layout c.requires.0)
 
 pub returns-then-contains : goal.returns-then-contains
 returns-then-contains c =

@@ -4,10 +4,10 @@ use Rattle.cards.specs.Codes.{suit_code, suit_cards}
 use Rattle.cards.proofs.Sets.{has_suit, suit_mask, suit_small}
 use Rattle.cards.proofs.set.CardSet.suit.Goals as goal
 
-pub invariant-of-result : goal.invariant-of-result
-invariant-of-result c =
+pub invariant_of-result : goal.invariant_of-result
+invariant_of-result c =
     let s = c.code.result in let l = c.code.ensures.bound in
-    (subst (λ (n : ℕ). n < 2 ^ 52) (sym (suit_mask s l)) (suit_small s l), tt)
+    record { cards = subst (λ (n : ℕ). n < 2 ^ 52) (sym (suit_mask s l)) (suit_small s l) }
 
 pub returns : goal.returns
 returns c =
