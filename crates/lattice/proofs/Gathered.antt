@@ -12,7 +12,7 @@ use Rattle.lattice.specs.contracts.Lattice.TheBound.{Met}
 use Rattle.lattice.specs.Scores.{Laws}
 
 pub laws_of : {M : Type 1} {𝓤 : Ura M} {𝓛 : Logic 𝓤} {𝓜 : Model 𝓤 𝓛.H} {𝓡 : Running 𝓤 𝓛.H 𝓜} {γ : Env}
-    {S : RattleType} {ghosts : Ghosts S.Denot} {clone : CloneGhosts S.Denot} {d : Dict} → Met 𝓛 𝓜 𝓡 γ S ghosts clone d → Laws ghosts.scoring
+    {S : RattleType} {ghosts : Ghosts S.Denot} {d : Dict} {clone : CloneGhosts S.Denot} {e : Dict} → Met 𝓛 𝓜 𝓡 γ S ghosts d clone e → Laws ghosts.scoring
 laws_of m = record {
   join_commutes = m.join_commutes;
   join_associates = m.join_associates;
