@@ -1,5 +1,5 @@
 -- The example game: Max takes three, or leaves it to Min to give five or two.
-use Rattle.std.specs.Prelude.{ℕ, List, [], ◌∷◌}
+use Rattle.std.specs.Prelude.{ℕ, [], ◌∷◌}
 use Rattle.lattice.specs.declared.tricks.Tricks.{Tricks}
 use Rattle.games.specs.declared.key.Key.{Key}
 use Rattle.games.specs.declared.side.Side.TheVariants.{Max, Min}

@@ -2,7 +2,7 @@
 use Rattle.std.specs.Prelude.{◌≡◌, ℕ, zero, suc, ◌<◌, ◌≤◌, Bool, true, false, Some, None, Option}
 use Rattle.std.proofs.Common.{sym, ⊎_elim, arith}
 use Rattle.std.proofs.lemmas.Bool.{cases_Bool, cases_eq, cases_lt, le-ltb}
-use Rattle.policies.specs.Policies.{PolicyOps, PolicyLaws, Chosen, free, or_next, lowest_with, highest_with, lowest_ops, highest_ops, Layered, last_at, if_with, recent_ops}
+use Rattle.policies.specs.Policies.{PolicyOps, PolicyLaws, Chosen, free, or_next, lowest_with, highest_with, lowest_ops, highest_ops, last_at, if_with, recent_ops}
 
 -- r is a number below k with f, or no number below k has f
 record Below (f : ℕ → Bool) (k : ℕ) (r : Option ℕ) : Type 0 where

@@ -1,5 +1,5 @@
 -- What a policy does, as functions of its model, and the law that every policy keeps to.
-use Rattle.std.specs.Prelude.{◌≡◌, ℕ, zero, suc, ◌^◌, ◌<◌, Bool, true, false, cond, not, ◌&&◌, List, set, Some, None, Option, nat_le, nat_lt, slice_index_or, slice_set}
+use Rattle.std.specs.Prelude.{◌≡◌, ℕ, zero, suc, ◌^◌, ◌<◌, Bool, true, false, cond, not, ◌&&◌, List, Some, None, Option, nat_le, nat_lt, slice_index_or, slice_set}
 use Rattle.bitsets.specs.Sets.{has}
 
 -- from the depth, the set of taken places and the number of children, the place that a policy with the model P chooses;

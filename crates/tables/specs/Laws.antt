@@ -1,6 +1,6 @@
 -- Each table keeps to the laws.
 use Rattle.std.specs.Prelude.{◌≡◌, ℕ, ◌<◌, ◌≤◌, true, false, ◌⊎◌, List, length, get_or, set, replicate, Some, None, Option, ◌==◌, ◌≢◌, slice_index_or, slice_set}
-use Rattle.std.proofs.Common.{ap, ap₂, inl, inr, ⊎_elim, arith, length-set, get_or-set_same, get_or-set_other}
+use Rattle.std.proofs.Common.{ap₂, inl, inr, ⊎_elim, arith, length-set, get_or-set_same, get_or-set_other}
 use Rattle.std.proofs.lemmas.List.{length-replicate, get_or-replicate}
 use Rattle.std.proofs.Math.ListN.{get_or-eq_default}
 use Rattle.std.proofs.Math.Seq.{set_out}
@@ -8,7 +8,7 @@ use Rattle.std.proofs.lemmas.Bool.{and_parts, eqb-true, cases_Bool, cases_eq, ca
 use Rattle.games.specs.declared.key.Key.{Key}
 use Rattle.tables.specs.declared.claim.Claim.{Claim}
 use Rattle.tables.specs.Places.{place_of, same_key, if_of, at_key, place_ops}
-use Rattle.tables.specs.Tables.{TableOps, TableLaws, empty_ops, Layered, or_else, layered_ops}
+use Rattle.tables.specs.Tables.{TableOps, TableLaws, empty_ops, or_else, layered_ops}
 
 pub empty_laws : TableLaws empty_ops
 empty_laws = record {

@@ -4,5 +4,5 @@ use Rattle.analyst.proofs.promise.holds.Goals as goal
 
 pub returns : goal.returns
 returns g c =
-    promised g.G.Game.line g.Score.Lattice.scoring g.Score.Lattice.stands g.T.Table.ops g.P.Policy.ops
-    (laws_of g.met.Score.Lattice) g.met.G.Game.lawful g.T.Table.laws g.P.Policy.laws
+    promised g.G.Game.line g.G.Score.Lattice.scoring g.G.Score.Lattice.stands g.T.Table.ops g.P.Policy.ops
+    (laws_of g.met.G.Score.Lattice) g.met.G.Game.lawful g.T.Table.laws g.P.Policy.laws

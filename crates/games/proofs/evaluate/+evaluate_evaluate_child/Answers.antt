@@ -9,20 +9,20 @@ pub evaluate-returns-in-Some : goal.evaluate-returns-in-Some
 evaluate-returns-in-Some g t c =
     let present = (g.G.Game.line c.args.game.now).present in
     let e = sym c.score.ensures ∙ c.in-Some.is in
-    let v = over_plain g.Score.Lattice.scoring g.Score.Lattice.stands present c.in-Some.score e in
+    let v = over_plain g.G.Score.Lattice.scoring g.G.Score.Lattice.stands present c.in-Some.score e in
     let p = over_size present c.in-Some.score e in
     record { value = cc; positions = c.single.ensures.positions ∙ p; same = search rules }
 
-pub evaluate-returns-in-default-side : goal.evaluate-returns-in-default-side
-evaluate-returns-in-default-side g t c =
+pub evaluate-returns-in_default-side : goal.evaluate-returns-in_default-side
+evaluate-returns-in_default-side g t c =
     absurd (over_or_turn (g.G.Game.line c.args.game.now).present
-    (sym c.score.ensures ∙ c.in-default.is) (sym c.side.ensures ∙ c.in-default-side.is))
+    (sym c.score.ensures ∙ c.in_default.is) (sym c.side.ensures ∙ c.in_default-side.is))
 
 pub evaluate-loop-place-init : goal.evaluate-loop-place-init
 evaluate-loop-place-init g t c =
     let present = (g.G.Game.line c.args.game.now).present in
     let e = sym c.side.ensures ∙ c.in-Some-side.is in
-    let v = drawn_plain g.Score.Lattice.scoring g.Score.Lattice.stands present c.in-Some-side.side e in
+    let v = drawn_plain g.G.Score.Lattice.scoring g.G.Score.Lattice.stands present c.in-Some-side.side e in
     let p = counted_size present c.in-Some-side.side e in
     (refl, cc, cc)
 
@@ -32,17 +32,17 @@ evaluate-loop-place-preserved g t c =
     let kept = c.loop-place.invariant.0 in
     let some : 0 < c.loop-place.place = omega arith in (
       cc,
-      drawn_more g.Score.Lattice.scoring g.Score.Lattice.stands c.in-Some-side.side line
+      drawn_more g.G.Score.Lattice.scoring g.G.Score.Lattice.stands c.in-Some-side.side line
           (g.G.Game.line c.loop-place.game) kept c.loop-place.place some
-          (g.Score.Lattice.stands c.loop-place.found.value) c.loop-place.invariant.1
-          c.evaluate-child.ensures.value c.with-child-found.ensures.value,
+          (g.G.Score.Lattice.stands c.loop-place.found.value) c.loop-place.invariant.1
+          c.evaluate_child.ensures.value c.with_child-found.ensures.value,
       counted_more line (g.G.Game.line c.loop-place.game) kept c.loop-place.place some
           c.loop-place.found.positions c.loop-place.invariant.2
-          c.evaluate-child.ensures.positions c.with-child-found.ensures.positions,
+          c.evaluate_child.ensures.positions c.with_child-found.ensures.positions,
     )
 
-pub evaluate-child-evaluate-evaluation-requires : goal.evaluate-child-evaluate-evaluation-requires
-evaluate-child-evaluate-evaluation-requires g t c κs within =
+pub evaluate_child-evaluate-evaluation-requires : goal.evaluate_child-evaluate-evaluation-requires
+evaluate_child-evaluate-evaluation-requires g t c κs within =
     let h =
     lower (g.G.Game.line c.args.game.now) (g.G.Game.line c.play.new.self) c.args.place
     (g.met.G.Game.lawful c.args.game.now) c.requires c.play.ensures.goes

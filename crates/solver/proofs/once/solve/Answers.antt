@@ -10,10 +10,10 @@ use Rattle.solver.proofs.once.solve.Goals as goal
 
 pub unreachable-requires-in-Err : goal.unreachable-requires-in-Err
 unreachable-requires-in-Err g c =
-    let o = g.Score.Lattice.scoring in
-    let st = g.Score.Lattice.stands in
+    let o = g.G.Score.Lattice.scoring in
+    let st = g.G.Score.Lattice.stands in
     let k = stack_of st c.args.stack.now in
-    let law = laws_of g.met.Score.Lattice in
+    let law = laws_of g.met.G.Score.Lattice in
     let begun = c.in-ok-ticket.ensures in
     let run = c.in-Ok.ensures in
     let did = chain o st g.T.Table.ops g.P.Policy.ops (g.G.Game.line c.args.game) (g.T.Table.model c.args.table) (g.P.Policy.model c.args.policy) c.args.job c.args.steps
@@ -22,15 +22,15 @@ unreachable-requires-in-Err g c =
 
 pub returns : goal.returns
 returns g c =
-    let o = g.Score.Lattice.scoring in
-    let st = g.Score.Lattice.stands in
+    let o = g.G.Score.Lattice.scoring in
+    let st = g.G.Score.Lattice.stands in
     let tb = g.T.Table.ops in
     let ch = g.P.Policy.ops in
     let l = g.G.Game.line c.args.game in
     let m = g.T.Table.model c.args.table in
     let p = g.P.Policy.model c.args.policy in
     let k = stack_of st c.args.stack.now in
-    let law = laws_of g.met.Score.Lattice in
+    let law = laws_of g.met.G.Score.Lattice in
     let begun = c.in-ok-ticket.ensures in
     let run = c.in-Ok.ensures in
     let did = chain o st tb ch l m p c.args.job c.args.steps

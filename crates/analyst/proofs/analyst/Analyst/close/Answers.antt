@@ -10,8 +10,8 @@ use Rattle.analyst.proofs.analyst.Analyst.close.Goals as goal
 
 pub returns : goal.returns
 returns g c =
-    let st = g.Score.Lattice.stands in
-    let o = g.Score.Lattice.scoring in
+    let st = g.G.Score.Lattice.stands in
+    let o = g.G.Score.Lattice.scoring in
     let a = state_of st g.G.Game.line g.T.Table.model g.P.Policy.model c.args.self.now in
     let k = stack_of st c.args.stack.now in
     let s = open_of st c.in-Some.open in

@@ -9,9 +9,9 @@ returns g c = record {
   leaves = c.go-on.ensures.leaves;
   stack = c.go-on.ensures.stack;
   right =
-      runs_right g.G.Game.line g.Score.Lattice.scoring g.Score.Lattice.stands g.T.Table.ops g.P.Policy.ops
-      (laws_of g.met.Score.Lattice) g.met.G.Game.lawful g.T.Table.laws g.P.Policy.laws
-      (state_of g.Score.Lattice.stands g.G.Game.line g.T.Table.model g.P.Policy.model c.args.self.now)
-      c.args.ticket.now.job (stack_of g.Score.Lattice.stands c.args.stack.now) c.args.steps
+      runs_right g.G.Game.line g.G.Score.Lattice.scoring g.G.Score.Lattice.stands g.T.Table.ops g.P.Policy.ops
+      (laws_of g.met.G.Score.Lattice) g.met.G.Game.lawful g.T.Table.laws g.P.Policy.laws
+      (state_of g.G.Score.Lattice.stands g.G.Game.line g.T.Table.model g.P.Policy.model c.args.self.now)
+      c.args.ticket.now.job (stack_of g.G.Score.Lattice.stands c.args.stack.now) c.args.steps
       c.go-on.result c.go-on.ensures.answer;
 }

@@ -4,7 +4,7 @@ use Rattle.search.proofs.engine.Engine.resume.Goals as goal
 
 pub returns-then-is-shut : goal.returns-then-is-shut
 returns-then-is-shut g c = record {
-  state = way_cut g.Score.Lattice.scoring g.Score.Lattice.stands g.T.Table.ops g.P.Policy.ops
+  state = way_cut g.G.Score.Lattice.scoring g.G.Score.Lattice.stands g.T.Table.ops g.P.Policy.ops
       g.G.Game.line g.T.Table.model g.P.Policy.model c.args.self.now c.args.stack.now c.args.progress.now
       c.top.result c.in-Some.frame c.side.result c.in-Some-side.side c.narrowed-window.result c.is-shut.result
       (record {
@@ -23,7 +23,7 @@ returns-then-is-shut g c = record {
 
 pub returns-then-play : goal.returns-then-play
 returns-then-play g c = record {
-  state = way_played g.Score.Lattice.scoring g.Score.Lattice.stands g.T.Table.ops g.P.Policy.ops
+  state = way_played g.G.Score.Lattice.scoring g.G.Score.Lattice.stands g.T.Table.ops g.P.Policy.ops
       g.G.Game.line g.T.Table.model g.P.Policy.model c.args.self.now c.args.stack.now c.args.progress.now
       c.top.result c.in-Some.frame c.side.result c.in-Some-side.side c.narrowed-window.result c.is-shut.result
       (record {
@@ -44,7 +44,7 @@ returns-then-play g c = record {
 
 pub returns-else-play : goal.returns-else-play
 returns-else-play g c = record {
-  state = way_stuck g.Score.Lattice.scoring g.Score.Lattice.stands g.T.Table.ops g.P.Policy.ops
+  state = way_stuck g.G.Score.Lattice.scoring g.G.Score.Lattice.stands g.T.Table.ops g.P.Policy.ops
       g.G.Game.line g.T.Table.model g.P.Policy.model c.args.self.now c.args.stack.now c.args.progress.now
       c.top.result c.in-Some.frame c.side.result c.in-Some-side.side c.narrowed-window.result c.is-shut.result
       (record {
@@ -64,7 +64,7 @@ returns-else-play g c = record {
 
 pub returns-in-default-choose : goal.returns-in-default-choose
 returns-in-default-choose g c = record {
-  state = way_taken g.Score.Lattice.scoring g.Score.Lattice.stands g.T.Table.ops g.P.Policy.ops
+  state = way_taken g.G.Score.Lattice.scoring g.G.Score.Lattice.stands g.T.Table.ops g.P.Policy.ops
       g.G.Game.line g.T.Table.model g.P.Policy.model c.args.self.now c.args.stack.now c.args.progress.now
       c.top.result c.in-Some.frame c.side.result c.in-Some-side.side c.narrowed-window.result c.is-shut.result
       (record {

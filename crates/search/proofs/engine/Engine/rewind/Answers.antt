@@ -16,9 +16,9 @@ returns g c =
     record {
       game = back;
       home = λ base w₀ inv.
-          back ∙ sym (ap to (plays_framed g.Score.Lattice.stands h (frames k)))
-          ∙ (promised g.Score.Lattice.scoring g.Score.Lattice.stands g.T.Table.ops g.P.Policy.ops
-          (laws_of g.met.Score.Lattice) g.T.Table.laws g.P.Policy.laws).back base w₀ _ inv;
+          back ∙ sym (ap to (plays_framed g.G.Score.Lattice.stands h (frames k)))
+          ∙ (promised g.G.Score.Lattice.scoring g.G.Score.Lattice.stands g.T.Table.ops g.P.Policy.ops
+          (laws_of g.met.G.Score.Lattice) g.T.Table.laws g.P.Policy.laws).back base w₀ _ inv;
       table = c.take-back.ensures.table;
       policy = c.take-back.ensures.policy;
     }

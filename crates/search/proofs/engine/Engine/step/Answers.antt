@@ -7,36 +7,36 @@ use Rattle.search.proofs.engine.Engine.step.Goals as goal
 
 pub returns-in-Enter : goal.returns-in-Enter
 returns-in-Enter g c =
-    let s = searching g.Score.Lattice.stands g.G.Game.line g.T.Table.model g.P.Policy.model c.args.self.now c.args.stack.now c.args.progress.now in
+    let s = searching g.G.Score.Lattice.stands g.G.Game.line g.T.Table.model g.P.Policy.model c.args.self.now c.args.stack.now c.args.progress.now in
     let state =
     c.enter.ensures.state
-    ∙ sym (ap (λ h. stepped_by g.Score.Lattice.scoring g.Score.Lattice.stands g.T.Table.ops g.P.Policy.ops s (handed g.Score.Lattice.stands h)) c.in-Enter.is) in
+    ∙ sym (ap (λ h. stepped_by g.G.Score.Lattice.scoring g.G.Score.Lattice.stands g.T.Table.ops g.P.Policy.ops s (handed g.G.Score.Lattice.stands h)) c.in-Enter.is) in
     record {
       state = state;
-      kept = step_keeps g.Score.Lattice.scoring g.Score.Lattice.stands g.T.Table.ops g.P.Policy.ops (laws_of g.met.Score.Lattice) g.T.Table.laws g.P.Policy.laws s _ state;
+      kept = step_keeps g.G.Score.Lattice.scoring g.G.Score.Lattice.stands g.T.Table.ops g.P.Policy.ops (laws_of g.met.G.Score.Lattice) g.T.Table.laws g.P.Policy.laws s _ state;
       job = c.enter.ensures.job;
     }
 
 pub returns-in-Holding : goal.returns-in-Holding
 returns-in-Holding g c =
-    let s = searching g.Score.Lattice.stands g.G.Game.line g.T.Table.model g.P.Policy.model c.args.self.now c.args.stack.now c.args.progress.now in
+    let s = searching g.G.Score.Lattice.stands g.G.Game.line g.T.Table.model g.P.Policy.model c.args.self.now c.args.stack.now c.args.progress.now in
     let state =
     c.absorb.ensures.state
-    ∙ sym (ap (λ h. stepped_by g.Score.Lattice.scoring g.Score.Lattice.stands g.T.Table.ops g.P.Policy.ops s (handed g.Score.Lattice.stands h)) c.in-Holding.is) in
+    ∙ sym (ap (λ h. stepped_by g.G.Score.Lattice.scoring g.G.Score.Lattice.stands g.T.Table.ops g.P.Policy.ops s (handed g.G.Score.Lattice.stands h)) c.in-Holding.is) in
     record {
       state = state;
-      kept = step_keeps g.Score.Lattice.scoring g.Score.Lattice.stands g.T.Table.ops g.P.Policy.ops (laws_of g.met.Score.Lattice) g.T.Table.laws g.P.Policy.laws s _ state;
+      kept = step_keeps g.G.Score.Lattice.scoring g.G.Score.Lattice.stands g.T.Table.ops g.P.Policy.ops (laws_of g.met.G.Score.Lattice) g.T.Table.laws g.P.Policy.laws s _ state;
       job = c.absorb.ensures.job;
     }
 
 pub returns-in-Nothing : goal.returns-in-Nothing
 returns-in-Nothing g c =
-    let s = searching g.Score.Lattice.stands g.G.Game.line g.T.Table.model g.P.Policy.model c.args.self.now c.args.stack.now c.args.progress.now in
+    let s = searching g.G.Score.Lattice.stands g.G.Game.line g.T.Table.model g.P.Policy.model c.args.self.now c.args.stack.now c.args.progress.now in
     let state =
     c.resume.ensures.state
-    ∙ sym (ap (λ h. stepped_by g.Score.Lattice.scoring g.Score.Lattice.stands g.T.Table.ops g.P.Policy.ops s (handed g.Score.Lattice.stands h)) c.in-Nothing.is) in
+    ∙ sym (ap (λ h. stepped_by g.G.Score.Lattice.scoring g.G.Score.Lattice.stands g.T.Table.ops g.P.Policy.ops s (handed g.G.Score.Lattice.stands h)) c.in-Nothing.is) in
     record {
       state = state;
-      kept = step_keeps g.Score.Lattice.scoring g.Score.Lattice.stands g.T.Table.ops g.P.Policy.ops (laws_of g.met.Score.Lattice) g.T.Table.laws g.P.Policy.laws s _ state;
+      kept = step_keeps g.G.Score.Lattice.scoring g.G.Score.Lattice.stands g.T.Table.ops g.P.Policy.ops (laws_of g.met.G.Score.Lattice) g.T.Table.laws g.P.Policy.laws s _ state;
       job = c.resume.ensures.job;
     }
