@@ -38,7 +38,7 @@ pub struct Analyst<G: Game + Drop, T: Table, P: Policy> {
 impl<G: Game + Drop, T: Table, P: Policy> Analyst<G, T, P> {
     /// An analyst of a game. Its table is cleared: the claims that it holds may be another game's.
     pub fn new(game: G, table: T, policy: P) -> Analyst<G, T, P>
-        ensures { state_of Score-as-Lattice.stands G.Game.line T.Table.model P.Policy.model result
+        ensures { state_of G.Score.Lattice.stands G.Game.line T.Table.model P.Policy.model result
             ≡ makes T.Table.ops (G.Game.line game) (T.Table.model table) (P.Policy.model policy) }
     {
         let mut cleared = table;
@@ -58,10 +58,10 @@ impl<G: Game + Drop, T: Table, P: Policy> Analyst<G, T, P> {
     /// Refused (1) while a search is open; the game offered is then gone.
     pub fn load(&mut self, game: G) -> Result<(), Refusal>
         ensures answer { result ≡ answered (λ _. tt) (loads T.Table.ops
-            (state_of Score-as-Lattice.stands G.Game.line T.Table.model P.Policy.model self.old) (G.Game.line game)) }
-        ensures leaves { state_of Score-as-Lattice.stands G.Game.line T.Table.model P.Policy.model self.new
-            ≡ left (λ a. a) (state_of Score-as-Lattice.stands G.Game.line T.Table.model P.Policy.model self.old)
-            (loads T.Table.ops (state_of Score-as-Lattice.stands G.Game.line T.Table.model P.Policy.model self.old) (G.Game.line game)) }
+            (state_of G.Score.Lattice.stands G.Game.line T.Table.model P.Policy.model self.old) (G.Game.line game)) }
+        ensures leaves { state_of G.Score.Lattice.stands G.Game.line T.Table.model P.Policy.model self.new
+            ≡ left (λ a. a) (state_of G.Score.Lattice.stands G.Game.line T.Table.model P.Policy.model self.old)
+            (loads T.Table.ops (state_of G.Score.Lattice.stands G.Game.line T.Table.model P.Policy.model self.old) (G.Game.line game)) }
     {
         if self.search.is_some() {
             return Err(Refusal::SearchOpen);
@@ -74,10 +74,10 @@ impl<G: Game + Drop, T: Table, P: Policy> Analyst<G, T, P> {
     /// Plays to the child at a place. Refused (1) while a search is open, (2) where there is no child at the place.
     pub fn play(&mut self, place: u32) -> Result<(), Refusal>
         ensures answer { result ≡ answered (λ _. tt)
-            (plays (state_of Score-as-Lattice.stands G.Game.line T.Table.model P.Policy.model self.old) place) }
-        ensures leaves { state_of Score-as-Lattice.stands G.Game.line T.Table.model P.Policy.model self.new
-            ≡ left (λ a. a) (state_of Score-as-Lattice.stands G.Game.line T.Table.model P.Policy.model self.old)
-            (plays (state_of Score-as-Lattice.stands G.Game.line T.Table.model P.Policy.model self.old) place) }
+            (plays (state_of G.Score.Lattice.stands G.Game.line T.Table.model P.Policy.model self.old) place) }
+        ensures leaves { state_of G.Score.Lattice.stands G.Game.line T.Table.model P.Policy.model self.new
+            ≡ left (λ a. a) (state_of G.Score.Lattice.stands G.Game.line T.Table.model P.Policy.model self.old)
+            (plays (state_of G.Score.Lattice.stands G.Game.line T.Table.model P.Policy.model self.old) place) }
     {
         if self.search.is_some() {
             return Err(Refusal::SearchOpen);
@@ -92,10 +92,10 @@ impl<G: Game + Drop, T: Table, P: Policy> Analyst<G, T, P> {
     /// Takes the last play back. Refused (1) while a search is open, (3) at the loaded position.
     pub fn take_back(&mut self) -> Result<(), Refusal>
         ensures answer { result ≡ answered (λ _. tt)
-            (takes_back (state_of Score-as-Lattice.stands G.Game.line T.Table.model P.Policy.model self.old)) }
-        ensures leaves { state_of Score-as-Lattice.stands G.Game.line T.Table.model P.Policy.model self.new
-            ≡ left (λ a. a) (state_of Score-as-Lattice.stands G.Game.line T.Table.model P.Policy.model self.old)
-            (takes_back (state_of Score-as-Lattice.stands G.Game.line T.Table.model P.Policy.model self.old)) }
+            (takes_back (state_of G.Score.Lattice.stands G.Game.line T.Table.model P.Policy.model self.old)) }
+        ensures leaves { state_of G.Score.Lattice.stands G.Game.line T.Table.model P.Policy.model self.new
+            ≡ left (λ a. a) (state_of G.Score.Lattice.stands G.Game.line T.Table.model P.Policy.model self.old)
+            (takes_back (state_of G.Score.Lattice.stands G.Game.line T.Table.model P.Policy.model self.old)) }
     {
         if self.search.is_some() {
             return Err(Refusal::SearchOpen);
@@ -109,8 +109,8 @@ impl<G: Game + Drop, T: Table, P: Policy> Analyst<G, T, P> {
 
     /// Clears the table. It is never refused; an open search stays open.
     pub fn clear(&mut self)
-        ensures { state_of Score-as-Lattice.stands G.Game.line T.Table.model P.Policy.model self.new
-            ≡ clears T.Table.ops (state_of Score-as-Lattice.stands G.Game.line T.Table.model P.Policy.model self.old) }
+        ensures { state_of G.Score.Lattice.stands G.Game.line T.Table.model P.Policy.model self.new
+            ≡ clears T.Table.ops (state_of G.Score.Lattice.stands G.Game.line T.Table.model P.Policy.model self.old) }
     {
         self.engine.table.clear();
     }

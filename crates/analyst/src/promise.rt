@@ -12,5 +12,5 @@ use tables::Table;
 /// at most as many positions as that position's tree has, and is finished once four steps are granted for each of them;
 /// and every claim in the table is true.
 pub fn holds<G: Game, T: Table, P: Policy>()
-    ensures { Promise G.Game.line Score-as-Lattice.scoring Score-as-Lattice.stands T.Table.ops P.Policy.ops }
+    ensures { Promise G.Game.line G.Score.Lattice.scoring G.Score.Lattice.stands T.Table.ops P.Policy.ops }
 {}

@@ -1,5 +1,5 @@
 -- What an open position has found stays fair: at its start, with one more child, and when it closes.
-use Rattle.std.proofs.Common.{◌≡◌, ℕ, zero, suc, ◌^◌, ◌<◌, true, false, Some, sym, ◌∙◌, subst, ⊎_elim, arith, lit<}
+use Rattle.std.proofs.Common.{◌≡◌, ℕ, zero, suc, ◌^◌, ◌<◌, true, Some, sym, ◌∙◌, subst, ⊎_elim, arith, lit<}
 use mathlib.Core.Bool.{false≢true}
 use lib.Bits.{bit_or}
 use Rattle.bitsets.specs.Sets.{has}

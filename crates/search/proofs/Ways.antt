@@ -1,5 +1,6 @@
 -- Each way through a step, from what the program found on it.
 use Rattle.std.proofs.Common.{◌≡◌, ℕ, suc, Bool, true, false, cond, ltb, List, [], ◌∷◌, length, Some, None, Option, sym, refl, ap, ◌∙◌, subst, arith}
+use Rattle.lattice.specs.declared.Lattice.{Ghosts}
 use Rattle.lattice.specs.declared.bracket.Bracket.{Bracket}
 use Rattle.lattice.specs.Scores.{Scoring, standing}
 use Rattle.lattice.specs.Windows.{scored}
@@ -72,13 +73,13 @@ module _ {S C M P : Type 0} where
   same_parts s z l m p f r h e u = λ i.
       record { line = l i; table = m i; policy = p i; frames = f i; places = r i; hand = h i; entered = e i; used = u i }
 
-module _ {G T Q S C M P : Type 0} (o : Scoring C) (st : S → C) (tb : TableOps M) (ch : PolicyOps P)
-    (line : G → Line S) (table : T → M) (policy : Q → P) (e : Engine G T Q S) (k : SearchStack S) (g : Progress S) where
+module _ {G T Q S C M P : Type 0} {meaning : Ghosts S} (o : Scoring C) (st : S → C) (tb : TableOps M) (ch : PolicyOps P)
+    (line : G → Line S) (table : T → M) (policy : Q → P) (e : Engine G T Q S) (k : SearchStack S meaning) (g : Progress S) where
   abbrev before : Search S C M P
   before = searching st line table policy e k g
 
   -- a turn that the table does not know, and there is room for its frame
-  pub way_pushed : (k' : SearchStack S) (g' : Progress S) (w : Bracket S) (v : Option S) (t : Option Side) (d : Side) (b : Option (Bracket S)) (f : Frame S) (r : Bool)
+  pub way_pushed : (k' : SearchStack S meaning) (g' : Progress S) (w : Bracket S) (v : Option S) (t : Option Side) (d : Side) (b : Option (Bracket S)) (f : Frame S) (r : Bool)
       → v ≡ score_of (line e.game).present → v ≡ None → t ≡ side_of (line e.game).present → t ≡ Some d
       → standing (scored st) b ≡ claimed o (scored st w) (tb.answer (table e.table) (key_of (line e.game).present)) → b ≡ None
       → framed st f ≡ opened o (scored st w) d
@@ -95,7 +96,7 @@ module _ {G T Q S C M P : Type 0} (o : Scoring C) (st : S → C) (tb : TableOps 
       same_parts _ _ refl refl refl (ap (all_framed st) pushed ∙ ap (λ x. x ∷ all_framed st (frames k)) opens) rm (ap (handed st) h) n u ∙ sym way
 
   -- and there is none
-  pub way_full : (k' : SearchStack S) (w : Bracket S) (v : Option S) (t : Option Side) (d : Side) (b : Option (Bracket S)) (f : Frame S) (r : Bool)
+  pub way_full : (k' : SearchStack S meaning) (w : Bracket S) (v : Option S) (t : Option Side) (d : Side) (b : Option (Bracket S)) (f : Frame S) (r : Bool)
       → v ≡ score_of (line e.game).present → v ≡ None → t ≡ side_of (line e.game).present → t ≡ Some d
       → standing (scored st) b ≡ claimed o (scored st w) (tb.answer (table e.table) (key_of (line e.game).present)) → b ≡ None
       → r ≡ ltb (length (frames k)) (room k) → r ≡ false → frames k' ≡ cond r (f ∷ frames k) (frames k) → room k' ≡ room k
@@ -129,7 +130,7 @@ module _ {G T Q S C M P : Type 0} (o : Scoring C) (st : S → C) (tb : TableOps 
     shut_is x q = subst (λ y. shut o y ≡ x) read.window (sym read.shuts ∙ q)
 
     -- a cut
-    pub way_cut : (e' e'' : Engine G T Q S) (k'' : SearchStack S) (g'' : Progress S) (a : Bracket S) (deep : ℕ) → b ≡ true
+    pub way_cut : (e' e'' : Engine G T Q S) (k'' : SearchStack S meaning) (g'' : Progress S) (a : Bracket S) (deep : ℕ) → b ≡ true
         → deep ≡ length (tail (frames k)) → e'.game ≡ e.game → e'.table ≡ e.table
         → policy e'.policy ≡ noticed ch (policy e.policy) deep f.last
         → scored st a ≡ cut o d (framed st f)
@@ -157,7 +158,7 @@ module _ {G T Q S C M P : Type 0} (o : Scoring C) (st : S → C) (tb : TableOps 
         sym (λ i. ch.choose (policy e.policy) (same i) f.taken.0 (many i)) ∙ sym is ∙ q
 
     -- all children are taken
-    pub way_taken : (e'' : Engine G T Q S) (k'' : SearchStack S) (g'' : Progress S) (x : Option ℕ) (deep m : ℕ) → b ≡ false
+    pub way_taken : (e'' : Engine G T Q S) (k'' : SearchStack S meaning) (g'' : Progress S) (x : Option ℕ) (deep m : ℕ) → b ≡ false
         → deep ≡ length (tail (frames k)) → m ≡ count (children_of (line e.game).present)
         → x ≡ ch.choose (policy e.policy) deep f.taken.0 m → x ≡ None
         → searching st line table policy e'' k'' g''
@@ -169,7 +170,7 @@ module _ {G T Q S C M P : Type 0} (o : Scoring C) (st : S → C) (tb : TableOps 
         (shut_is false miss) (chosen x deep m depth many is None none))
 
     -- a child is played
-    pub way_played : (e'' : Engine G T Q S) (k'' : SearchStack S) (x : Option ℕ) (deep m i : ℕ) (y : Bool) (f' : Frame S) → b ≡ false
+    pub way_played : (e'' : Engine G T Q S) (k'' : SearchStack S meaning) (x : Option ℕ) (deep m i : ℕ) (y : Bool) (f' : Frame S) → b ≡ false
         → deep ≡ length (tail (frames k)) → m ≡ count (children_of (line e.game).present)
         → x ≡ ch.choose (policy e.policy) deep f.taken.0 m → x ≡ Some i
         → y ≡ can_play (line e.game) i → y ≡ true → line e''.game ≡ after_play (line e.game) i

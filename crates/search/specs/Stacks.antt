@@ -1,5 +1,6 @@
 -- The stack of a search, and the state of a search as the program holds it.
 use Rattle.std.specs.Prelude.{ℕ, ◌-◌, ◌^◌, min, List, [], ◌∷◌, reverse, length, take, Some, None, Option}
+use Rattle.lattice.specs.declared.Lattice.{Ghosts}
 use Rattle.lattice.specs.Windows.{scored}
 use Rattle.games.specs.Trees.{Line}
 use Rattle.search.specs.declared.engine.Engine.{Engine}
@@ -30,13 +31,14 @@ module _ {X : Type 0} where
   abbrev pub newest_first : ℕ → List X → List X
   newest_first n xs = reverse (take n xs)
 
-module _ {S : Type 0} where
+-- a stack's type names what the score type S means
+module _ {S : Type 0} {meaning : Ghosts S} where
   -- the open frames, the newest first
-  abbrev pub frames : SearchStack S → List (Frame S)
+  abbrev pub frames : SearchStack S meaning → List (Frame S)
   frames k = newest_first k.count k.places.now
 
   -- the most frames that the stack holds
-  abbrev pub room : SearchStack S → ℕ
+  abbrev pub room : SearchStack S meaning → ℕ
   room k = min (length k.places.now) (2 ^ 32 - 1)
 
 module _ {S C : Type 0} (st : S → C) where
@@ -54,7 +56,7 @@ module _ {S C : Type 0} (st : S → C) where
   handed Nothing = Nothing
 
   -- the state of a search by its engine, stack and progress, told what game, table and policy mean
-  abbrev pub searching : {G T Q M P : Type 0} → (G → Line S) → (T → M) → (Q → P) → Engine G T Q S → SearchStack S → Progress S → Search S C M P
+  abbrev pub searching : {meaning : Ghosts S} {G T Q M P : Type 0} → (G → Line S) → (T → M) → (Q → P) → Engine G T Q S → SearchStack S meaning → Progress S → Search S C M P
   searching line table policy e k g =
       record {
         line = line e.game;

@@ -10,5 +10,5 @@ use tables::Table;
 /// Each step keeps the invariant of a search, each bracket in hand and each claim put is true of its position,
 /// a search comes to its end within four steps for each position, and its bracket then decides its window.
 pub fn holds<G: Game, T: Table, P: Policy>()
-    ensures { Promise Score-as-Lattice.scoring Score-as-Lattice.stands T.Table.ops P.Policy.ops }
+    ensures { Promise G.Score.Lattice.scoring G.Score.Lattice.stands T.Table.ops P.Policy.ops }
 {}

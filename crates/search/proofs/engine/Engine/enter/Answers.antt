@@ -7,7 +7,7 @@ returns-then-push g c = record {
       g.G.Game.line g.T.Table.model g.P.Policy.model c.args.self.now c.args.stack.now c.args.progress.now
       c.push.new.self c.enter-then-push.new.self c.args.window c.score.result c.side.result c.in-Some-side.side
       c.known.result c.opened.result c.push.result
-      c.score.ensures c.in-default.is c.side.ensures c.in-Some-side.is c.known.ensures c.in-default-known.is
+      c.score.ensures c.in_default.is c.side.ensures c.in-Some-side.is c.known.ensures c.in_default-known.is
       c.opened.ensures c.push.ensures.told c.if-push.true c.push.ensures.frames c.push.ensures.room
       c.enter-then-push.ensures.hand c.enter-then-push.ensures.entered c.enter-then-push.ensures.used;
   job = c.push.ensures.job;
@@ -19,7 +19,7 @@ returns-else-push g c = record {
       g.G.Game.line g.T.Table.model g.P.Policy.model c.args.self.now c.args.stack.now c.args.progress.now
       c.push.new.self c.args.window c.score.result c.side.result c.in-Some-side.side
       c.known.result c.opened.result c.push.result
-      c.score.ensures c.in-default.is c.side.ensures c.in-Some-side.is c.known.ensures c.in-default-known.is
+      c.score.ensures c.in_default.is c.side.ensures c.in-Some-side.is c.known.ensures c.in_default-known.is
       c.push.ensures.told c.if-push.false c.push.ensures.frames c.push.ensures.room;
   job = c.push.ensures.job;
 }

@@ -11,7 +11,7 @@ loop-init g c =
 pub loop-preserved : goal.loop-preserved
 loop-preserved g c =
     let inv = c.loop.invariant in
-    (backs_more c.args.plays c.loop.counter _ _ c.loop-test.true c.take-back.ensures.goes ∙ inv.0, inv.1, inv.2)
+    (backs_more c.args.plays c.loop.counter _ _ c.loop-test.true c.take_back.ensures.goes ∙ inv.0, inv.1, inv.2)
 
 pub returns : goal.returns
 returns g c =

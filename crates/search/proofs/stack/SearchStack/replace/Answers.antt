@@ -8,7 +8,7 @@ returns-then-self-gt0 g c =
     let s = c.args.self.now in
     record { frames = replaced s.places.now s.count c.args.frame c.if-self-gt0.true s.fits; room = search (rules, length-set); job = search rules }
 
-pub offset-bounds-self-last : goal.offset-bounds-self-last
-offset-bounds-self-last g c =
+pub offset_bounds-self-last : goal.offset_bounds-self-last
+offset_bounds-self-last g c =
     let s = c.args.self.now in
     let lt : s.count - 1 < length s.places.now = omega (arith, s.fits) in search rules
