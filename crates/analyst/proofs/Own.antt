@@ -1,9 +1,9 @@
 -- A search with its own ticket and stack: run and end are accepted, and the other calls leave it as it is.
-use Rattle.std.proofs.Common.{◌≡◌, ℕ, Bool, true, false, cond, eqb, ltb, length, Some, None, Ok, Err, Option, Result, sym, refl, ap, ◌∙◌}
+use Rattle.std.proofs.Common.{◌≡◌, ℕ, cond, eqb, ltb, length, Some, Ok, Err, Option, Result, sym, refl, ap, ◌∙◌}
 use Rattle.std.proofs.lemmas.Bool.{and_parts, and_from, eqb-true, eq-eqb}
 use Rattle.lattice.specs.declared.bracket.Bracket.{Bracket}
 use Rattle.lattice.specs.Scores.{Scoring}
-use Rattle.games.specs.Trees.{Line, can_play, can_take_back, height_of}
+use Rattle.games.specs.Trees.{Line, height_of}
 use Rattle.tables.specs.Tables.{TableOps}
 use Rattle.policies.specs.Policies.{PolicyOps}
 use Rattle.search.specs.Steps.{Search, ran, done, entries}
@@ -11,7 +11,7 @@ use Rattle.search.proofs.Room.{ran_room}
 use Rattle.analyst.specs.declared.analyst.Open.{Open}
 use Rattle.analyst.specs.declared.refusal.Refusal.{Refusal}
 use Rattle.analyst.specs.declared.refusal.Refusal.TheVariants.{SearchOpen}
-use Rattle.analyst.specs.Calls.{State, Stack, is_free, none_open, opening, matches, searching, stopped, closed, AfterBegin, AfterRun, AfterEnd, Mine, loads, plays, takes_back, begins, runs, runs_of, ends, ends_of, answered, left}
+use Rattle.analyst.specs.Calls.{State, Stack, is_free, none_open, opening, matches, searching, stopped, closed, AfterBegin, AfterRun, Mine, loads, plays, takes_back, begins, runs, runs_of, ends, ends_of, answered, left}
 use Rattle.analyst.proofs.Results.{same_ok, not_ok, yes_first, said_yes}
 use Rattle.analyst.proofs.Searching.{free_is}
 

@@ -1,5 +1,5 @@
 -- The calls that need no ticket: make, load, play, take back and clear; and refused calls.
-use Rattle.std.proofs.Common.{◌≡◌, ℕ, ◌<◌, Bool, true, false, cond, ltb, List, [], ◌∷◌, Some, None, Ok, Err, Option, sym, refl, ap, ◌∙◌, subst}
+use Rattle.std.proofs.Common.{◌≡◌, ℕ, ◌<◌, Bool, true, cond, List, [], ◌∷◌, Some, None, Ok, Option, sym, refl, ap, ◌∙◌, subst}
 use mathlib.Core.Bool.{false≢true}
 use Rattle.std.proofs.lemmas.Bool.{ltb-true}
 use Rattle.lattice.specs.Scores.{Scoring}
@@ -8,10 +8,10 @@ use Rattle.tables.specs.Tables.{TableOps, TableLaws}
 use Rattle.search.specs.Invariant.{Honest}
 use Rattle.analyst.specs.declared.analyst.Open.{Open}
 use Rattle.analyst.specs.declared.refusal.Refusal.{Refusal}
-use Rattle.analyst.specs.Calls.{State, Stack, makes, placed, loads, plays, takes_back, clears, none_open, searching}
-use Rattle.analyst.specs.Histories.{Account, Standing, child_first, line_at, account_at, open_after, next, loaded as loaded_with, played, took_back, cleared, refused, after_clear}
+use Rattle.analyst.specs.Calls.{State, Stack, makes, loads, plays, takes_back, clears, none_open}
+use Rattle.analyst.specs.Histories.{Account, Standing, child_first, line_at, account_at, open_after, next, loaded as loaded_with, played, took_back, refused, after_clear}
 use Rattle.analyst.proofs.Results.{same_ok, yes_first}
-use Rattle.analyst.proofs.Sound.{Rested, Busy, Stands, Sound}
+use Rattle.analyst.proofs.Sound.{Rested, Stands, Sound}
 
 module _ {S : Type 0} where
   pub lawful_child : (l : Line S) (n : ℕ) → n < count (children_of l.present) → Lawful l → Lawful (child_first l n)

@@ -1,30 +1,29 @@
 -- The calls of a search: begin, run and end.
-use Rattle.std.proofs.Common.{◌≡◌, ℕ, ◌+◌, ◌*◌, ◌<◌, ◌≤◌, max, Bool, true, false, cond, ◌&&◌, eqb, ltb, ◌⊎◌, List, [], ◌∷◌, length, Some, None, Ok, Err, Option, sym, refl, ap, ◌∙◌, subst, inl, inr, ⊎_elim, true≢false, arith}
-use Rattle.std.proofs.lemmas.Bool.{and_parts, and_from, eqb-true, eq-eqb, ltb-true, cases_Bool}
+use Rattle.std.proofs.Common.{◌≡◌, ℕ, ◌+◌, ◌*◌, ◌<◌, ◌≤◌, Bool, true, false, cond, eqb, ltb, ◌⊎◌, List, [], ◌∷◌, length, Some, None, Ok, Option, sym, refl, ap, ◌∙◌, subst, ⊎_elim, arith}
+use Rattle.std.proofs.lemmas.Bool.{and_parts, and_from, eqb-true, eq-eqb, ltb-true}
 use Rattle.lattice.specs.declared.bracket.Bracket.{Bracket}
 use Rattle.lattice.specs.Scores.{Scoring, Laws}
 use Rattle.lattice.specs.Windows.{clamped}
-use Rattle.games.specs.Trees.{Tree, Line, Lawful, size, plain, height_of, loaded}
+use Rattle.games.specs.Trees.{Line, size, plain, height_of}
 use Rattle.tables.specs.Tables.{TableOps, TableLaws}
 use Rattle.policies.specs.Policies.{PolicyOps, PolicyLaws}
 use Rattle.search.specs.declared.frame.Frame.{Frame}
 use Rattle.search.specs.declared.frame.Hand.{Hand}
 use Rattle.search.specs.declared.frame.Hand.TheVariants.{Enter, Holding, Nothing}
 use Rattle.search.specs.Steps.{Search, rests, finished, ran, done, entries}
-use Rattle.search.specs.Invariant.{Honest, Invariant, to_enter, to_do}
-use Rattle.search.specs.Promises.{Answers, Went, Tells}
+use Rattle.search.specs.Invariant.{Invariant, to_do}
+use Rattle.search.specs.Promises.{Went}
 use Rattle.search.proofs.Room.{ran_room}
 use Rattle.search.proofs.Runs.{to_do_some}
 use Rattle.search.proofs.Finish.{promised}
 use Rattle.analyst.specs.declared.analyst.Open.{Open}
-use Rattle.analyst.specs.declared.ended.Ended.{Ended}
 use Rattle.analyst.specs.declared.ended.Ran.{Ran}
-use Rattle.analyst.specs.Calls.{State, Stack, free_stack, Free, is_free, AfterBegin, AfterRun, AfterEnd, begins, runs_of, ends_of, closed, value_of, matches, searching, none_open, stopped}
+use Rattle.analyst.specs.Calls.{State, Stack, Free, is_free, AfterBegin, AfterRun, AfterEnd, begins, runs_of, ends_of, value_of, matches, searching, none_open}
 use Rattle.analyst.specs.Histories.{Account, Standing, new_account, some_with_run, line_at, account_at, open_after, Own, next, began, ran_for, ended}
 use Rattle.analyst.specs.Promises.{RunRight, EndRight, Told, Freed}
-use Rattle.analyst.proofs.Results.{same_ok, not_ok, yes_first, said_yes, some_same, none_some}
+use Rattle.analyst.proofs.Results.{same_ok, not_ok, yes_first, some_same}
 use Rattle.analyst.proofs.Resting.{at_rest}
-use Rattle.analyst.proofs.Sound.{Rested, Busy, Stands, Sound}
+use Rattle.analyst.proofs.Sound.{Busy, Stands, Sound}
 
 -- a stack that the test finds free is one
 frames_none : {C : Type 0} (fs : List (Frame C)) → length fs ≡ 0 → fs ≡ []

@@ -9,8 +9,8 @@ use Rattle.analyst.specs.declared.ended.Ended.{Ended}
 use Rattle.analyst.specs.declared.ended.Ran.{Ran}
 use Rattle.analyst.specs.declared.refusal.Refusal.{Refusal}
 use Rattle.analyst.specs.Calls.{State, Stack, AfterRun, AfterEnd, loads, plays, takes_back, begins, runs, runs_of, ends, ends_of, none_open, matches, answered, left}
-use Rattle.analyst.specs.Histories.{Account, Standing, line_at, account_at, open_after, told, next, Own, History, made, load, play, take_back, begin, run, end, clear}
-use Rattle.analyst.specs.Promises.{RunRight, EndRight, Told, RunsRight, EndsRight, Accepted, Promise}
+use Rattle.analyst.specs.Histories.{Account, Standing, line_at, account_at, open_after, told, History, made, load, play, take_back, begin, run, end, clear}
+use Rattle.analyst.specs.Promises.{RunRight, EndRight, RunsRight, EndsRight, Accepted, Promise}
 use Rattle.analyst.proofs.Results.{same_ok, not_ok, said_yes, by_result}
 use Rattle.analyst.proofs.Sound.{Rested, Stands, Sound}
 use Rattle.analyst.proofs.Resting.{refused_sound, made_sound, load_sound, play_sound, take_back_sound, clear_sound}

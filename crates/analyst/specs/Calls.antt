@@ -1,11 +1,11 @@
 -- The calls on an analyst, as functions on meanings: make, load, play, take back, begin, run, end and clear.
 -- Each comes to what the analyst and the stack are after it, or to a refusal, after which both are as they were.
 -- A search is begun with a job number and a free stack; its ticket is that number, and run and end ask for it again.
-use Rattle.std.specs.Prelude.{◌≡◌, ℕ, Bool, true, false, cond, ◌&&◌, List, [], ◌∷◌, length, Some, None, Ok, Err, Option, Result, ◌==◌, nat_lt}
+use Rattle.std.specs.Prelude.{◌≡◌, ℕ, Bool, true, false, ◌&&◌, List, [], ◌∷◌, length, Some, None, Ok, Err, Option, Result, ◌==◌, nat_lt}
 use Rattle.lattice.specs.declared.bracket.Bracket.{Bracket}
 use Rattle.lattice.specs.Scores.{Scoring}
 use Rattle.lattice.specs.Windows.{clamped}
-use Rattle.games.specs.Trees.{Tree, Line, height_of, can_play, after_play, can_take_back, after_take_back}
+use Rattle.games.specs.Trees.{Line, height_of, can_play, after_play, can_take_back, after_take_back}
 use Rattle.tables.specs.Tables.{TableOps}
 use Rattle.policies.specs.Policies.{PolicyOps}
 use Rattle.search.specs.declared.frame.Frame.{Frame}

@@ -1,5 +1,6 @@
 -- What analysts and stacks mean, told what scores, games, tables and policies mean.
 use Rattle.std.specs.Prelude.{Ok, Err, Result}
+use Rattle.lattice.specs.declared.Lattice.{Ghosts}
 use Rattle.lattice.specs.Scores.{standing}
 use Rattle.lattice.specs.Windows.{scored}
 use Rattle.games.specs.Trees.{Line}
@@ -28,7 +29,7 @@ module _ {S C : Type 0} (st : S → C) where
   abbrev pub ended_of : Ended S → Ended C
   ended_of e = record { entered = e.entered; used = e.used; value = standing st e.value }
 
-  abbrev pub stack_of : SearchStack S → Stack C
+  abbrev pub stack_of : {meaning : Ghosts S} → SearchStack S meaning → Stack C
   stack_of k = record { places = room k; job = k.job; frames = all_framed st (frames k) }
 
   -- an analyst

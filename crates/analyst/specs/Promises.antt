@@ -1,9 +1,8 @@
 -- What is promised of any sequence of calls, whatever the game, the scores, the table and the policy.
-use Rattle.std.specs.Prelude.{◌≡◌, ℕ, ◌+◌, ◌*◌, ◌<◌, ◌≤◌, Bool, true, false, cond, Some, None, Ok, Err, Option, Result}
-use Rattle.lattice.specs.declared.bracket.Bracket.{Bracket}
+use Rattle.std.specs.Prelude.{◌≡◌, ℕ, ◌+◌, ◌*◌, ◌≤◌, true, false, cond, Some, None, Ok, Option, Result}
 use Rattle.lattice.specs.Scores.{Scoring}
 use Rattle.lattice.specs.Windows.{clamped}
-use Rattle.games.specs.Trees.{Tree, Line, size, plain, loaded}
+use Rattle.games.specs.Trees.{Line, size, plain, loaded}
 use Rattle.tables.specs.Tables.{TableOps}
 use Rattle.policies.specs.Policies.{PolicyOps}
 use Rattle.search.specs.Invariant.{Honest}

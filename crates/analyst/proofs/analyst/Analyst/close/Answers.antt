@@ -1,4 +1,4 @@
-use Rattle.std.proofs.Common.{ℕ, Ok, Option, sym, refl, ap, ◌∙◌}
+use Rattle.std.proofs.Common.{ℕ, Ok, sym, refl, ap, ◌∙◌}
 use Rattle.lattice.specs.Scores.{standing}
 use Rattle.search.specs.Promises.{backs}
 use Rattle.search.specs.Stacks.{frames}

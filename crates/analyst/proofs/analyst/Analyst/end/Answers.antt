@@ -1,7 +1,5 @@
-use Rattle.std.proofs.Common.{◌≡◌, Ok, Result, sym, refl, ap, ◌∙◌}
+use Rattle.std.proofs.Common.{Ok, sym, ap, ◌∙◌}
 use Rattle.lattice.proofs.Gathered.{laws_of}
-use Rattle.analyst.specs.declared.ended.Ended.{Ended}
-use Rattle.analyst.specs.declared.refusal.Refusal.{Refusal}
 use Rattle.analyst.specs.Model.{state_of, stack_of, end_told, handed_back}
 use Rattle.analyst.proofs.Results.{same_ok}
 use Rattle.analyst.proofs.Sequences.{ends_right}
