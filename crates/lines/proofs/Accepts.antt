@@ -1,7 +1,7 @@
 -- What the parts of the reader take: `part-ok` says what holds where a part answers Ok, and `ok-part` where it answers so.
 use Rattle.std.proofs.Common.{◌≡◌, ℕ, zero, suc, ◌≤◌, Bool, true, false, cond, eqb, List, [], ◌∷◌, ◌++◌, length, Some, None, Ok, Err, Option, Result, sym, refl, ap, ◌∙◌, subst, append_assoc, arith}
 use lib.Bits.{bit_and, bit_or}
-use Rattle.std.specs.List.{AllByRecursion as All}
+use Rattle.std.specs.List.{AllByRecursion}
 use Rattle.std.proofs.lemmas.List.{append-nil}
 use Rattle.std.proofs.lemmas.Bool.{eqb-true, eq-eqb, cond-true}
 use Rattle.lines.specs.declared.fault.FaultKind.{FaultKind}
@@ -140,7 +140,7 @@ agrees_back (m ∷ before) l after e = eq-eqb (both l) (both m) e
 
 -- the layouts of a deal from some on
 layouts_ok : (d : Deal) (n : ℕ) (before : List Defence) (s : Spot) → layouts_at n d.hand0 d.hand2 before s ≡ Ok d.layouts
-    → (after : List Defence) × (d.layouts ≡ before ++ after) × (length after ≡ n) × All (LayoutFits d) after × (s.rest ≡ layout_texts after)
+    → (after : List Defence) × (d.layouts ≡ before ++ after) × (length after ≡ n) × AllByRecursion (LayoutFits d) after × (s.rest ≡ layout_texts after)
 layouts_ok d zero before s e =
     let (q, f) = end_ok before d.layouts s e in
     ([], sym f ∙ sym (append-nil before), refl, tt, q)
@@ -158,13 +158,13 @@ layouts_ok d (suc n) before s e =
 
 -- all of them
 pub all_layouts_ok : (d : Deal) (n : ℕ) (s : Spot) → layouts_at n d.hand0 d.hand2 [] s ≡ Ok d.layouts
-    → (length d.layouts ≡ n) × All (LayoutFits d) d.layouts × (s.rest ≡ layout_texts d.layouts)
+    → (length d.layouts ≡ n) × AllByRecursion (LayoutFits d) d.layouts × (s.rest ≡ layout_texts d.layouts)
 all_layouts_ok d n s e =
     let (ls, w, m, g, q) = layouts_ok d n [] s e in
-    subst (λ (xs : List Defence). (length xs ≡ n) × All (LayoutFits d) xs × (s.rest ≡ layout_texts xs)) (sym w) (m, g, q)
+    subst (λ (xs : List Defence). (length xs ≡ n) × AllByRecursion (LayoutFits d) xs × (s.rest ≡ layout_texts xs)) (sym w) (m, g, q)
 
 pub ok_layouts : (d : Deal) (before after : List Defence) (n b : ℕ) → 1 ≤ size d.hand0 → size d.hand0 ≤ 13
-    → d.layouts ≡ before ++ after → All (LayoutFits d) after
+    → d.layouts ≡ before ++ after → AllByRecursion (LayoutFits d) after
     → layouts_at (length after) d.hand0 d.hand2 before (spot (layout_texts after) n b) ≡ Ok d.layouts
 ok_layouts d before [] n b x y w f = ap Ok (sym (w ∙ append-nil before))
 ok_layouts d before (l ∷ after) n b x y w (f, fs) =

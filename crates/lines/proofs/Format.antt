@@ -1,7 +1,7 @@
 -- The law of the format: a line is read as a deal exactly when the deal is valid and the line is its written form.
 use Rattle.std.proofs.Common.{◌≡◌, ℕ, ◌<◌, ◌≤◌, Bool, true, false, cond, eqb, List, [], ◌∷◌, length, Ok, Err, codes, Option, sym, refl, ap, ◌∙◌, subst, arith}
 use lib.Bits.{bit_or, and_comm, or_comm}
-use Rattle.std.specs.List.{AllByRecursion as All}
+use Rattle.std.specs.List.{AllByRecursion}
 use Rattle.std.proofs.lemmas.Bool.{eqb-true}
 use Rattle.bitsets.proofs.Digits.{or_assoc}
 use Rattle.bitsets.proofs.Digits.{apart_or, or_apart_l, or_apart_r}
@@ -178,7 +178,7 @@ abbrev asking : Deal → Asked → List Defence → Deal
 asking d asked ls =
     record { asked = asked; trump = d.trump; leader = d.leader; hand0 = d.hand0; hand2 = d.hand2; layouts = ls }
 
-layouts_plain : (ls : List Defence) → All Plain (layout_texts ls)
+layouts_plain : (ls : List Defence) → AllByRecursion Plain (layout_texts ls)
 layouts_plain [] = tt
 layouts_plain (l ∷ ls) = (hand_plain l.hand1, (hand_plain l.hand3, layouts_plain ls))
 

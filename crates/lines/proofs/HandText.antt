@@ -2,7 +2,7 @@
 use Rattle.std.proofs.Common.{◌≡◌, ℕ, zero, suc, ◌+◌, ◌-◌, ◌*◌, ◌/◌, ◌%◌, ◌^◌, ◌<◌, ◌≤◌, Bool, true, false, cond, ◌&&◌, ltb, leb, ◌⊎◌, List, [], ◌∷◌, get_or, Some, None, Option, sym, refl, ap, ◌∙◌, subst, inl, inr, lt_of_lt_of_le, add-one, arith, pow_mono}
 use native.Mathlib.Nat.{pow-succ'}
 use lib.Bits.{bit_or}
-use Rattle.std.specs.List.{AllByRecursion as All}
+use Rattle.std.specs.List.{AllByRecursion}
 use Rattle.std.proofs.ByRecursion.{All-from_get_or}
 use Rattle.std.proofs.lemmas.Bool.{ltb-false, le-ltb, leb-true, le-leb, and_parts, and_from, cases_lt, cases_eq, cond_both, cond-true, cond-false}
 use Rattle.bitsets.specs.Sets.{has, members_from, members}
@@ -122,11 +122,11 @@ whole_back w u s h =
     let q : w ≡ 0 + w = omega arith in
     cards_back w s 0 0 0 (omega arith) (omega arith) (λ j l. absurd (omega arith)) (omega arith) (subst (λ (n : ℕ). s < 2 ^ n) q h)
 
-text_plain : (cs : List ℕ) → All (λ c. c < 52) cs → Plain (cards_text cs)
+text_plain : (cs : List ℕ) → AllByRecursion (λ c. c < 52) cs → Plain (cards_text cs)
 text_plain [] h = tt
 text_plain (c ∷ cs) (h, t) = (suit_plain (c / 13) (omega arith), (rank_plain (c % 13) (omega arith), text_plain cs t))
 
-members_below : (k x : ℕ) → All (λ c. c < k) (members k x)
+members_below : (k x : ℕ) → AllByRecursion (λ c. c < k) (members k x)
 members_below k x = All-from_get_or (λ c. c < k) (members k x) 0 (λ n l. let (c, b, e, i, o) = members_at k x n l in omega arith)
 
 pub hand_plain : (h : ℕ) → Plain (hand_text h)

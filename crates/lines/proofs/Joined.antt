@@ -1,6 +1,6 @@
 -- Fields put together by commas come apart again as they were, and the fields of a line put together are the line.
 use Rattle.std.proofs.Common.{◌≡◌, ℕ, false, eqb, List, [], ◌∷◌, ◌++◌, sym, refl, ap, ◌∙◌}
-use Rattle.std.specs.List.{AllByRecursion as All}
+use Rattle.std.specs.List.{AllByRecursion}
 use Rattle.std.proofs.lemmas.Bool.{eqb-true, cond_both, cond-false}
 use Rattle.lines.specs.Fields.{onto, split}
 use Rattle.lines.specs.Written.{joined}
@@ -39,7 +39,7 @@ joined_split (b ∷ bs) =
 -- ---- fields with no comma
 
 abbrev pub Plain : List ℕ → Type 0
-Plain = All (λ b. eqb b 44 ≡ false)
+Plain = AllByRecursion (λ b. eqb b 44 ≡ false)
 
 split_plain : (p : List ℕ) → Plain p → split p ≡ p ∷ []
 split_plain [] h = refl
@@ -51,6 +51,6 @@ split_more [] rest h = refl
 split_more (b ∷ p) rest (h, t) =
     cond-false (eqb b 44) ([] ∷ split (p ++ 44 ∷ rest)) (onto b (split (p ++ 44 ∷ rest))) h ∙ ap (onto b) (split_more p rest t)
 
-pub split_joined : (p : List ℕ) (ps : List (List ℕ)) → All Plain (p ∷ ps) → split (joined (p ∷ ps)) ≡ p ∷ ps
+pub split_joined : (p : List ℕ) (ps : List (List ℕ)) → AllByRecursion Plain (p ∷ ps) → split (joined (p ∷ ps)) ≡ p ∷ ps
 split_joined p [] (h, t) = split_plain p h
 split_joined p (q ∷ ps) (h, t) = split_more p (joined (q ∷ ps)) h ∙ ap (λ (qs : List (List ℕ)). p ∷ qs) (split_joined q ps t)

@@ -1,6 +1,6 @@
 -- What a problem says, by numbers: sets of cards by their digits, suits and seats by their codes.
 use Rattle.std.specs.Prelude.{◌≡◌, ℕ, zero, suc, ◌^◌, ◌<◌, ◌≤◌, List, [], ◌∷◌, length, Some, None, Option, bit_and, bit_or}
-use Rattle.std.specs.List.{AllByRecursion as All}
+use Rattle.std.specs.List.{AllByRecursion}
 use Rattle.lines.specs.Spelling.{size}
 
 -- what is asked: how many tricks seats 0 and 2 make, or which layouts one plan beats, that is, makes a target in
@@ -79,4 +79,4 @@ pub record Valid (d : Deal) : Type 0 where
   pub partner : HandFits (size d.hand0) d.hand0 d.hand2
   pub listed : 1 ≤ length d.layouts
   pub six : length d.layouts ≤ 6
-  pub each : All (LayoutFits d) d.layouts
+  pub each : AllByRecursion (LayoutFits d) d.layouts

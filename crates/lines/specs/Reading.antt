@@ -1,6 +1,5 @@
 -- What the reader answers: the first fault from the left, or the deal.
-use Rattle.std.specs.Prelude.{ℕ, zero, suc, Bool, true, cond, List, [], ◌∷◌, ◌++◌, Some, None, Ok, Err, Option, Result, ◌==◌, bit_and}
-use Rattle.std.specs.Int.Bits.{bit_or}
+use Rattle.std.specs.Prelude.{ℕ, zero, suc, Bool, true, cond, List, [], ◌∷◌, ◌++◌, Some, None, Ok, Err, Option, Result, ◌==◌, bit_and, bit_or}
 use Rattle.lines.specs.declared.fault.FaultKind.{FaultKind}
 use Rattle.lines.specs.declared.fault.FaultKind.TheVariants.{Kind, Missing, Value, Hand, Length, Repeated, Cards, Surplus}
 use Rattle.lines.specs.declared.fault.Fault.{Fault}

@@ -11,6 +11,6 @@ loop-rest-preserved c =
     let code = c.code-code.ensures.value in (
       c.with-cards.result.cards,
       more c.loop-rest.low c.loop-rest.cards.0 c.with-cards.result.bits c.loop-rest.rest.now (cards_of c.args.text.now) c.code-code.result
-          (search rules) c.loop-rest.invariant.1 (sym c.in-ok-card.ensures ∙ ap Some (sym code)) c.if-code-low.false
-          (with_value c.loop-rest.cards.0 c.with-cards.result.bits (card_code c.in-ok-card.card) c.with-cards.ensures ∙ ap (λ (n : ℕ). bit_or c.loop-rest.cards.0 (2 ^ n)) (sym code)),
+          (search rules) c.loop-rest.invariant.1 (sym c.in_ok-card.ensures ∙ ap Some (sym code)) c.if-code-low.false
+          (with_value c.loop-rest.cards.0 c.with-cards.result.bits (card_code c.in_ok-card.card) c.with-cards.ensures ∙ ap (λ (n : ℕ). bit_or c.loop-rest.cards.0 (2 ^ n)) (sym code)),
     )
