@@ -1,4 +1,4 @@
-use Rattle.std.proofs.Common.{◌≡◌, ℕ, ◌%◌, cond, eqb, Some, None, sym, ap, ◌∙◌, rules}
+use Rattle.std.proofs.Common.{ℕ, ◌%◌, cond, eqb, Some, None, sym, ap, ◌∙◌, rules}
 use Rattle.std.proofs.lemmas.Bool.{cond-false}
 use Rattle.games.specs.declared.side.Side.TheVariants.{Max, Min}
 use Rattle.deals.proofs.state.State.side.Goals as goal

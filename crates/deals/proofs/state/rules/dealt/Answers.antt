@@ -1,4 +1,3 @@
-use Rattle.std.proofs.Common.{◌≡◌}
 use Rattle.lines.specs.Seats.{seat_number}
 use Rattle.lines.specs.Told.{deal_of}
 use Rattle.deals.proofs.Layouts.{dealt_some, dealt_none}

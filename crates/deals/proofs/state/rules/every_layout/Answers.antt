@@ -1,4 +1,4 @@
-use Rattle.std.proofs.Common.{◌≡◌, ℕ, ◌+◌, ◌-◌, ◌*◌, ◌%◌, ◌^◌, ◌<◌, length, sym, refl, ap, ◌∙◌, arith, pow_pos}
+use Rattle.std.proofs.Common.{◌≡◌, ℕ, ◌-◌, ◌^◌, ◌<◌, length, sym, ap, ◌∙◌, arith, pow_pos}
 use lib.ListN.{length-map}
 use Rattle.std.proofs.lemmas.Nat.{one_shl}
 use Rattle.lines.specs.Told.{deal_of}
@@ -8,17 +8,17 @@ use Rattle.deals.proofs.Layouts.{six}
 use Rattle.deals.proofs.state.rules.every_layout.Goals as goal
 
 -- as many as are dealt
-listed : (c : goal.AfterLayouts) → length c.layouts.result.now ≡ length (dealt_of c.args.problem.now).layouts
+listed : (c : goal.After-layouts) → length c.layouts.result.now ≡ length (dealt_of c.args.problem.now).layouts
 listed c = let d = deal_of c.args.problem.now in c.layouts.ensures.len ∙ sym (length-map d.layouts (four_hands d))
 
-few : (c : goal.AfterLayouts) → length c.layouts.result.now < 64
+few : (c : goal.After-layouts) → length c.layouts.result.now < 64
 few c = let e = listed c in let l = six c.args.problem.now in omega arith
 
-pub overflow-shl-result : goal.overflow-shl-result
-overflow-shl-result c = few c
+pub overflow_shl-result : goal.overflow_shl-result
+overflow_shl-result c = few c
 
-pub overflow-sub-result : goal.overflow-sub-result
-overflow-sub-result c = let n = length c.layouts.result.now in omega (arith, one_shl n 64 (few c), pow_pos n)
+pub overflow_sub-result : goal.overflow_sub-result
+overflow_sub-result c = let n = length c.layouts.result.now in omega (arith, one_shl n 64 (few c), pow_pos n)
 
 pub returns : goal.returns
 returns c =
