@@ -7,5 +7,5 @@ empty : (line : List ℕ) → length line ≤ 0 → line ≡ line_text line
 empty [] l = refl
 empty (b ∷ bs) l = absurd (omega arith)
 
-pub returns-in-default·2 : goal.returns-in-default·2
-returns-in-default·2 c = empty c.args.line.now (search rules)
+pub returns-in_default-2 : goal.returns-in_default-2
+returns-in_default-2 c = empty c.args.line.now (search rules)

@@ -1,4 +1,4 @@
-use Rattle.std.proofs.Common.{◌≡◌, ℕ, ◌-◌, ◌*◌, ◌/◌, ◌%◌, ◌^◌, List, [], ◌∷◌, ◌++◌, string_bytes, sym, ap, ◌∙◌, append-nil, arith, rules}
+use Rattle.std.proofs.Common.{◌≡◌, ℕ, ◌-◌, ◌*◌, ◌/◌, ◌^◌, List, [], ◌∷◌, ◌++◌, string_bytes, sym, ap, ◌∙◌, append-nil, arith, rules}
 use lib.Bits.{and_mask}
 use Rattle.answers.specs.Hex.{hex_digit, hex_digits, hex_text}
 use Rattle.answers.proofs.Written.{one_more}
@@ -6,7 +6,7 @@ use Rattle.answers.proofs.hex.hex.Goals as goal
 
 pub loop-place-init : goal.loop-place-init
 unfolding hex_text
-loop-place-init c = ap (λ (xs : List ℕ). xs ++ hex_digits 16 c.args.word) c.in-ok-text.ensures.ok
+loop-place-init c = ap (λ (xs : List ℕ). xs ++ hex_digits 16 c.args.word) c.in_ok-text.ensures.ok
 
 pub loop-place-preserved : goal.loop-place-preserved
 loop-place-preserved c =
