@@ -1,5 +1,5 @@
 -- Begin, run and end on a fresh analyst, with its own ticket and stack: run and end are never refused.
-use Rattle.std.proofs.Common.{◌≡◌, ℕ, ◌<◌, Bool, true, false, cond, ◌&&◌, eqb, ltb, List, [], ◌∷◌, length, Some, None, Ok, Err, Option, Result, sym, refl, ap, ◌∙◌, subst}
+use Rattle.std.proofs.Common.{◌≡◌, ℕ, ◌<◌, Bool, true, false, cond, ltb, length, Ok, Err, Result, sym, refl, ap, ◌∙◌}
 use Rattle.std.proofs.lemmas.Bool.{and_from, eq-eqb, ltb-true}
 use Rattle.lattice.specs.declared.bracket.Bracket.{Bracket}
 use Rattle.lattice.specs.Scores.{Scoring, Laws}
@@ -7,18 +7,17 @@ use Rattle.games.specs.Trees.{Line, height_of}
 use Rattle.tables.specs.Tables.{TableOps}
 use Rattle.policies.specs.Policies.{PolicyOps}
 use Rattle.search.specs.Promises.{began}
-use Rattle.search.specs.Steps.{Search, ran, done, entries, finished}
+use Rattle.search.specs.Steps.{Search, ran, done, entries}
 use Rattle.search.proofs.Room.{ran_room}
 use Rattle.analyst.specs.declared.analyst.Open.{Open}
-use Rattle.analyst.specs.declared.ended.Ended.{Ended}
 use Rattle.analyst.specs.declared.ended.Ran.{Ran}
 use Rattle.analyst.specs.declared.refusal.Refusal.{Refusal}
 use Rattle.analyst.specs.declared.refusal.Refusal.TheVariants.{JobNotNew, WindowNotOrdered, StackNotFree, StackTooSmall}
-use Rattle.analyst.specs.Calls.{State, Stack, free_stack, is_free, marked, opening, matches, makes, AfterBegin, AfterRun, AfterEnd, begun, begins, stopped, runs, closed, ends, none_open, answered, left}
+use Rattle.analyst.specs.Calls.{State, Stack, free_stack, is_free, marked, opening, matches, makes, AfterBegin, AfterRun, begun, begins, stopped, runs, closed, ends, answered, left}
 use Rattle.analyst.proofs.Results.{same_ok, not_ok, yes_first, said_yes}
 use Rattle.analyst.proofs.Searching.{free_is}
 use Rattle.solver.specs.declared.once.Solved.{Solved}
-use Rattle.solver.specs.Solving.{whole, found, finds, solves}
+use Rattle.solver.specs.Solving.{whole, finds, solves}
 
 module _ {A B E : Type 0} where
   -- an answered call was accepted

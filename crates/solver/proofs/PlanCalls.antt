@@ -1,5 +1,5 @@
 -- The value of a plan game after any sequence of calls.
-use Rattle.std.proofs.Common.{◌≡◌, ℕ, Bool, true, false, cond, Some, None, Ok, Err, Option, Result, sym, refl, ap, ◌∙◌, subst}
+use Rattle.std.proofs.Common.{◌≡◌, ℕ, Bool, true, false, cond, Some, None, Ok, Option, Result, sym, refl, ap, ◌∙◌, subst}
 use Rattle.lattice.specs.declared.bracket.Bracket.{Bracket}
 use Rattle.lattice.specs.declared.family.Family.{Family}
 use Rattle.lattice.specs.FamilyScores.{FamilyScore, family_scoring, family_of}
@@ -18,13 +18,12 @@ use Rattle.deals.specs.Laws.{course_lawful}
 use Rattle.deals.proofs.Values.{plan_value}
 use Rattle.analyst.specs.declared.ended.Ran.{Ran}
 use Rattle.analyst.specs.declared.refusal.Refusal.{Refusal}
-use Rattle.analyst.specs.Calls.{State, Stack, AfterEnd, loads, plays, takes_back, begins, runs, ends, none_open}
-use Rattle.analyst.specs.Histories.{Account, some_with_run, Standing, line_at, account_at, told, Own, History, made, load, play, take_back, begin, run, end, clear}
+use Rattle.analyst.specs.Calls.{loads, plays, takes_back, begins, runs, ends, none_open}
+use Rattle.analyst.specs.Histories.{Account, some_with_run, Standing, line_at, account_at, told, History, made, load, play, take_back, begin, run, end, clear}
 use Rattle.analyst.proofs.Results.{by_result, yes_first, some_same, none_some}
 use Rattle.analyst.proofs.Resting.{at_rest}
 use Rattle.analyst.proofs.Sequences.{sound, promised}
-use Rattle.solver.specs.PlanCalls.{plan_line, PlanPosition, PlanRight, PlanPromise}
-use Rattle.solver.specs.Solving.{whole}
+use Rattle.solver.specs.PlanCalls.{plan_line, PlanPromise}
 use Rattle.solver.proofs.PlanLines.{Planned, planned_game, planned_position, planned_play, planned_back}
 use Rattle.solver.proofs.Right.{clamped_whole}
 

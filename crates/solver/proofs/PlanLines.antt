@@ -1,9 +1,9 @@
 -- Where the calls on an analyst of plan games lead: to positions of a valid deal's play.
-use Rattle.std.proofs.Common.{◌≡◌, ℕ, ◌<◌, Bool, true, false, cond, List, [], ◌∷◌, map, length, get_or, sym, refl, ap, ◌∙◌, subst}
+use Rattle.std.proofs.Common.{◌≡◌, ℕ, ◌<◌, Bool, true, cond, List, [], ◌∷◌, length, get_or, sym, refl, ap, ◌∙◌, subst}
 use Rattle.std.proofs.lemmas.Bool.{ltb-true}
 use Rattle.lattice.specs.declared.family.Family.{Family}
-use Rattle.games.specs.Trees.{Tree, Line, can_play, after_play, after_take_back}
-use Rattle.cardplay.specs.Cards.{Dealt, Play, legal_cards, after_card, position}
+use Rattle.games.specs.Trees.{Line, can_play, after_play, after_take_back}
+use Rattle.cardplay.specs.Cards.{Dealt, Play, legal_cards}
 use Rattle.cardplay.specs.Deals.{ValidDeal, Played}
 use Rattle.cardplay.proofs.CardLaws.{played_reached}
 use Rattle.deals.specs.declared.plan_game.PlanGame.{PlanGame}

@@ -1,17 +1,16 @@
 -- What a search of a fresh analyst finds is right for its position.
-use Rattle.std.proofs.Common.{◌≡◌, ℕ, ◌+◌, ◌-◌, ◌*◌, ◌^◌, ◌<◌, ◌≤◌, min, Bool, true, false, cond, Some, None, Option, sym, refl, ap, ◌∙◌, ⊎_elim, arith}
+use Rattle.std.proofs.Common.{◌≡◌, ℕ, ◌<◌, cond, Some, None, refl, ap, ◌∙◌}
 use Rattle.lattice.specs.declared.bracket.Bracket.{Bracket}
 use Rattle.lattice.specs.Scores.{Scoring, Laws}
 use Rattle.lattice.specs.Windows.{clamped}
-use Rattle.games.specs.Trees.{Tree, Line, Lawful, height_of, size, plain, loaded}
+use Rattle.games.specs.Trees.{Line, Lawful, height_of, plain, loaded}
 use Rattle.tables.specs.Tables.{TableOps, TableLaws}
 use Rattle.policies.specs.Policies.{PolicyOps, PolicyLaws}
-use Rattle.search.specs.Invariant.{Honest, Invariant}
-use Rattle.search.specs.Promises.{began, Went, Searched}
-use Rattle.search.specs.Steps.{Search, finished, ran, done, entries}
+use Rattle.search.specs.Invariant.{Honest}
+use Rattle.search.specs.Promises.{began}
+use Rattle.search.specs.Steps.{Search, finished, ran, entries}
 use Rattle.search.proofs.Finish.{promised}
 use Rattle.analyst.proofs.Searching.{value_right}
-use Rattle.solver.specs.declared.once.Solved.{Solved}
 use Rattle.solver.specs.Solving.{whole, finds, SolvedRight}
 
 -- the whole window shows every score as it is

@@ -1,5 +1,5 @@
 -- What the value of a search of the plan game says of plans, after any sequence of calls.
-use Rattle.std.specs.Prelude.{◌≡◌, ℕ, Some, Ok, Option}
+use Rattle.std.specs.Prelude.{◌≡◌, ℕ, Some, Ok}
 use Rattle.lattice.specs.declared.family.Family.{Family}
 use Rattle.lattice.specs.FamilyScores.{FamilyScore, family_scoring, family_of}
 use Rattle.games.specs.Trees.{Tree, Line}

@@ -1,4 +1,4 @@
-use Rattle.std.proofs.Common.{◌≡◌, Ok, sym, refl, ap, ◌∙◌, subst}
+use Rattle.std.proofs.Common.{◌≡◌, Ok, sym, ap, ◌∙◌, subst}
 use Rattle.lattice.proofs.Gathered.{laws_of}
 use Rattle.analyst.specs.Calls.{answered}
 use Rattle.analyst.specs.Model.{stack_of, handed_back}
@@ -14,11 +14,11 @@ unreachable-requires-in-Err g c =
     let st = g.G.Score.Lattice.stands in
     let k = stack_of st c.args.stack.now in
     let law = laws_of g.met.G.Score.Lattice in
-    let begun = c.in-ok-ticket.ensures in
+    let begun = c.in_ok-ticket.ensures in
     let run = c.in-Ok.ensures in
     let did = chain o st g.T.Table.ops g.P.Policy.ops (g.G.Game.line c.args.game) (g.T.Table.model c.args.table) (g.P.Policy.model c.args.policy) c.args.job c.args.steps
     law _ _ _ k _ _ c.new-analyst.ensures c.whole.ensures begun.answer (λ e. ap (λ t. t.job) (sym e)) _ _ begun.leaves begun.stack _ run.answer _ _ run.leaves run.stack in
-    not_ok (c.in-Err.ensures.answer ∙ ap (λ r. handed_back c.in-ok-ticket.ticket (answered (λ y. y.answer) r)) did.ends_is)
+    not_ok (c.in-Err.ensures.answer ∙ ap (λ r. handed_back c.in_ok-ticket.ticket (answered (λ y. y.answer) r)) did.ends_is)
 
 pub returns : goal.returns
 returns g c =
@@ -31,11 +31,11 @@ returns g c =
     let p = g.P.Policy.model c.args.policy in
     let k = stack_of st c.args.stack.now in
     let law = laws_of g.met.G.Score.Lattice in
-    let begun = c.in-ok-ticket.ensures in
+    let begun = c.in_ok-ticket.ensures in
     let run = c.in-Ok.ensures in
     let did = chain o st tb ch l m p c.args.job c.args.steps
     law _ _ _ k _ _ c.new-analyst.ensures c.whole.ensures begun.answer (λ e. ap (λ t. t.job) (sym e)) _ _ begun.leaves begun.stack _ run.answer _ _ run.leaves run.stack in
-    let ended = same_ok (c.in-Ok-end.ensures.answer ∙ ap (λ r. handed_back c.in-ok-ticket.ticket (answered (λ y. y.answer) r)) did.ends_is) in
+    let ended = same_ok (c.in-Ok-end.ensures.answer ∙ ap (λ r. handed_back c.in_ok-ticket.ticket (answered (λ y. y.answer) r)) did.ends_is) in
     let same : meaning st c.told.result ≡ finds o st tb ch l m p k.places c.args.steps =
     ap (meaning st) c.told.ensures
     ∙ (λ i. record {
