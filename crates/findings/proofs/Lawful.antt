@@ -1,13 +1,13 @@
 -- What the answers of accepted lines say: the search is never refused, and what it finds is right.
-use Rattle.std.proofs.Common.{◌≡◌, ℕ, ◌<◌, ◌≤◌, Bool, true, false, cond, ltb, List, [], replicate, Some, None, Ok, Err, Option, Result, sym, refl, ap, ◌∙◌, subst, arith}
+use Rattle.std.proofs.Common.{◌≡◌, ℕ, ◌<◌, ◌≤◌, Bool, true, false, cond, ltb, List, [], replicate, Some, None, Ok, Err, Option, Result, sym, refl, ◌∙◌, subst, arith}
 use lib.Count.{ones, ones-le}
 use Rattle.std.proofs.lemmas.Bool.{lt-ltb}
-use Rattle.lattice.specs.FamilyScores.{FamilyScore, family_scoring, family_of}
+use Rattle.lattice.specs.FamilyScores.{family_scoring, family_of}
 use Rattle.lattice.specs.Scores.{Scoring, Laws}
 use Rattle.lattice.specs.TrickScores.{trick_scoring, tricks_of}
 use Rattle.lattice.specs.FamilyLaws.{family_laws}
 use Rattle.lattice.specs.TrickLaws.{trick_laws}
-use Rattle.games.specs.Trees.{Line, height_of, plain}
+use Rattle.games.specs.Trees.{height_of}
 use Rattle.tables.specs.Laws.{place_laws, layered_laws}
 use Rattle.tables.specs.Places.{place_ops}
 use Rattle.policies.specs.Laws.{highest_laws, recent_laws}
@@ -19,7 +19,6 @@ use Rattle.lines.proofs.Format.{format}
 use Rattle.cardplay.specs.Cards.{Dealt, Play, position}
 use Rattle.cardplay.specs.Deals.{ValidDeal, first_play}
 use Rattle.cardplay.specs.Dealing.{dealt}
-use Rattle.cardplay.specs.PlanScores.{plan_family}
 use Rattle.cardplay.specs.Plans.{start}
 use Rattle.cardplay.proofs.CardLaws.{card_lawful}
 use Rattle.cardplay.proofs.Dealing.{valid_dealt}
@@ -30,13 +29,12 @@ use Rattle.deals.specs.Scores.{tricks_won, sets_made}
 use Rattle.deals.specs.Stands.{first_stand, line_of}
 use Rattle.deals.proofs.Lines.{line_height}
 use Rattle.deals.proofs.Values.{plan_value}
-use Rattle.analyst.specs.declared.refusal.Refusal.{Refusal}
 use Rattle.analyst.proofs.Results.{some_same, none_some}
 use Rattle.solver.specs.declared.once.Solved.{Solved}
 use Rattle.solver.specs.Solving.{finds, SolvedRight}
 use Rattle.solver.proofs.Right.{finds_right}
 use Rattle.findings.specs.Right.{TricksRight, PlanRight, DealRight, AnswerRight}
-use Rattle.findings.specs.Searched.{granted, table_ops, policy_ops, table_over, new_policy, searched, tricks_line, plan_line}
+use Rattle.findings.specs.Searched.{granted, table_ops, policy_ops, table_over, new_policy, searched}
 
 -- no deal has more than 52 cards, and the stack has 65 places
 first_low : {S : Type 0} (score : Play → S) (d : Dealt) → ValidDeal d → height_of (position d score (first_play d)) < 65

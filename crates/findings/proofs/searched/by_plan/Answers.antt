@@ -1,4 +1,4 @@
-use Rattle.std.proofs.Common.{◌≡◌, replicate, IfOk, None, string_bytes, Result, sym, ap, ◌∙◌, subst}
+use Rattle.std.proofs.Common.{◌≡◌, replicate, IfOk, None, string_bytes, Result, ap, ◌∙◌, subst}
 use Rattle.lattice.specs.FamilyScores.{FamilyScore, family_scoring, family_of}
 use Rattle.lines.specs.Told.{deal_of}
 use Rattle.deals.specs.Dealing.{dealt_of}

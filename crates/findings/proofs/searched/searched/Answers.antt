@@ -1,4 +1,4 @@
-use Rattle.std.proofs.Common.{◌≡◌, ap, ◌∙◌}
+use Rattle.std.proofs.Common.{ap, ◌∙◌}
 use Rattle.search.specs.Stacks.{all_framed}
 use Rattle.solver.specs.Solving.{solves}
 use Rattle.findings.specs.Searched.{table_ops, policy_ops}
