@@ -1,5 +1,5 @@
 -- A begin gives a ticket of its own.
-use Rattle.std.proofs.Common.{◌≡◌, ℕ, Ok, Err, Result, sym, refl, ap, ◌∙◌}
+use Rattle.std.proofs.Common.{◌≡◌, ℕ, Ok, Err, Result, sym, refl, ap}
 use Rattle.lattice.specs.declared.bracket.Bracket.{Bracket}
 use Rattle.lattice.specs.Scores.{Scoring}
 use Rattle.analyst.specs.declared.analyst.ticket.RefusedEnd.{RefusedEnd}

@@ -1,5 +1,5 @@
 -- What a begin leaves: a search with its own ticket and stack.
-use Rattle.std.specs.Prelude.{◌≡◌, ℕ, Some, None, Ok, Err, Option, Result}
+use Rattle.std.specs.Prelude.{Ok, Err, Result}
 use Rattle.analyst.specs.declared.analyst.ticket.Ticket.{Ticket}
 use Rattle.analyst.specs.declared.refusal.Refusal.{Refusal}
 use Rattle.analyst.specs.Calls.{State, Stack, Mine}
