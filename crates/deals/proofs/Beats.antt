@@ -5,7 +5,9 @@ use Rattle.cards.specs.declared.card.Card.{Card}
 use Rattle.cards.specs.declared.card.Rank.{Rank}
 use Rattle.cards.specs.declared.card.Rank.TheVariants.{Two, Three, Four, Five, Six, Seven, Eight, Nine, Ten, Jack, Queen, King, Ace}
 use Rattle.cards.specs.Codes.{suit_code, rank_code, card_code}
+use Rattle.lines.specs.declared.problem.Problem.{Problem}
 use Rattle.cardplay.specs.Cards.{Layout, Dealt, suit, rank, beats}
+use Rattle.deals.specs.Dealing.{dealt_of}
 
 rank_small : (r : Rank) → rank_code r < 13
 rank_small Two = lit< tt
@@ -45,10 +47,10 @@ module _ (ls : List Layout) (n : ℕ) (a b : Card) where
   by_trump t n = simp (code_suit, code_rank) (grind (arith, nat_tests))
 
 -- of one suit the higher card is the better one, and of two suits only a trump beats the other card
-pub same_suit : (d : Dealt) (a b : Card) → suit_code a.suit ≡ suit_code b.suit
-    → ltb (rank_code b.rank) (rank_code a.rank) ≡ beats d (card_code a) (card_code b)
+pub same_suit : (p : Problem) (a b : Card) (x y : ℕ) → x ≡ rank_code a.rank → y ≡ rank_code b.rank → suit_code a.suit ≡ suit_code b.suit
+    → ltb y x ≡ beats (dealt_of p) (card_code a) (card_code b)
 unfolding of_trump
-same_suit d a b = by_rank d.layouts d.leader a b d.trump
+same_suit p a b x y e f g = let d = dealt_of p in let h = by_rank d.layouts d.leader a b d.trump g in cc
 
 pub other_suit : (d : Dealt) (a b : Card) (t : ℕ) → d.trump ≡ Some t → (suit_code a.suit ≡ suit_code b.suit → ⊥)
     → eqb (suit_code a.suit) t ≡ beats d (card_code a) (card_code b)

@@ -1,7 +1,7 @@
 -- The layouts of a deal, one after the other.
-use Rattle.std.proofs.Common.{◌≡◌, ℕ, zero, suc, ◌+◌, ◌^◌, ◌<◌, ◌≤◌, Bool, true, false, cond, ◌&&◌, ◌||◌, eqb, ltb, List, [], ◌∷◌, map, length, get_or, take, drop, Some, None, Option, sym, refl, ap, ◌∙◌, add-zero, pow-suc, add-one, arith, drop_of_length-le, length-take}
-use lib.Bits.{bit_and, bit_or, and_zero_l, or_zero_r}
-use lib.ListN.{length-map}
+use Rattle.std.proofs.Common.{◌≡◌, ℕ, zero, suc, ◌+◌, ◌^◌, ◌<◌, ◌≤◌, Bool, true, false, cond, ◌&&◌, ◌||◌, eqb, ltb, List, [], ◌∷◌, map, length, get_or, take, drop, Some, None, Option, sym, refl, ap, ◌∙◌, add-zero, pow-suc, add-one, arith, drop_of_length-le, length-take, bit_and, bit_or}
+use Rattle.std.specs.Int.Bits.{and_zero_l, or_zero_r}
+use Rattle.std.proofs.lemmas.List.{length-map}
 use Rattle.std.proofs.lemmas.Bool.{cond-true, cond-false, and_right}
 use Rattle.std.proofs.lemmas.Bool.Decides.{nat_tests}
 use Rattle.bitsets.specs.Sets.{has}
@@ -16,7 +16,8 @@ use Rattle.cardplay.specs.Deals.{layout}
 use Rattle.cardplay.specs.Dealing.{four_hands}
 use Rattle.cardplay.proofs.LegalSet.{has_may_play}
 use Rattle.deals.specs.Dealing.{dealt_of}
-use Rattle.deals.specs.States.{legal_there}
+use Rattle.deals.specs.declared.state.State.{State}
+use Rattle.deals.specs.States.{play_of, legal_there}
 
 -- ---- hands
 
@@ -81,7 +82,7 @@ module _ (d : Dealt) (p : Play) where
   hands_from (l ∷ ls) (suc i) j = hands_from ls i j
 
   -- the cards of one layout more, and of all
-  pub next_hand : (i acc x r : ℕ) → x ≡ legal_there d p i → r ≡ bit_or acc x
+  next_hand : (i acc x r : ℕ) → x ≡ legal_there d p i → r ≡ bit_or acc x
       → bit_or acc (some_hands d p (drop i d.layouts) i) ≡ legal_set d p
       → bit_or r (some_hands d p (drop (i + 1) d.layouts) (i + 1)) ≡ legal_set d p
   next_hand i acc x r e f h =
@@ -93,6 +94,18 @@ module _ (d : Dealt) (p : Play) where
   pub all_hands : (n acc : ℕ) → length d.layouts ≤ n → bit_or acc (some_hands d p (drop n d.layouts) n) ≡ legal_set d p → acc ≡ legal_set d p
   all_hands n acc l h =
       sym (or_zero_r acc) ∙ sym (ap (λ (ls : List Layout). bit_or acc (some_hands d p ls n)) (drop_of_length-le d.layouts {i = n} l)) ∙ h
+
+module _ (q : Problem) (s : State) where
+  -- the legal cards of the layouts from one on
+  unfoldable pub hands_from_on : ℕ → ℕ
+  hands_from_on i = some_hands (dealt_of q) (play_of s) (drop i (dealt_of q).layouts) i
+
+  -- those so far with the cards of one layout more, in the words of the code
+  pub more_hands : (i acc x r : ℕ) → r ≡ bit_or acc x → x ≡ legal_there (dealt_of q) (play_of s) i
+      → bit_or acc (hands_from_on i) ≡ legal_set (dealt_of q) (play_of s)
+      → bit_or r (hands_from_on (i + 1)) ≡ legal_set (dealt_of q) (play_of s)
+  unfolding hands_from_on
+  more_hands i acc x r f e h = next_hand (dealt_of q) (play_of s) i acc x r e f h
 
 -- ---- the live layouts of one after the other
 
@@ -118,7 +131,7 @@ module _ (d : Dealt) (p : Play) (c : ℕ) where
   legal_now i x b v t = sym (t ∙ ap (λ (n : ℕ). has n c) v ∙ if_live (layout d i) (has p.live i))
 
   -- the layouts so far with the next one, or without it
-  pub next_live : (i acc r x : ℕ) → x ≡ legal_there d p i → true ≡ has x c → i < 64 → ((k : ℕ) → has r k ≡ (has acc k || (eqb k i && ltb k 64)))
+  next_live : (i acc r x : ℕ) → x ≡ legal_there d p i → true ≡ has x c → i < 64 → ((k : ℕ) → has r k ≡ (has acc k || (eqb k i && ltb k 64)))
       → (acc + still d p (drop i d.layouts) i c ≡ live_after d p c) × (acc < 2 ^ i)
       → (r + still d p (drop (i + 1) d.layouts) (i + 1) c ≡ live_after d p c) × (r < 2 ^ (i + 1))
   next_live i acc r x v t l m (h, small) =
@@ -138,7 +151,7 @@ module _ (d : Dealt) (p : Play) (c : ℕ) where
           has_ext r (bit_or acc (2 ^ i)) (λ k. m k ∙ ap (λ (b : Bool). has acc k || b) (fits k ∙ sym (has_pow i k)) ∙ sym (has_or acc (2 ^ i) k))
           ∙ or_pow_new acc i (has_high i acc i small (omega arith))
 
-  pub next_dead : (i acc r x : ℕ) → x ≡ legal_there d p i → false ≡ has x c → r ≡ acc
+  next_dead : (i acc r x : ℕ) → x ≡ legal_there d p i → false ≡ has x c → r ≡ acc
       → (acc + still d p (drop i d.layouts) i c ≡ live_after d p c) × (acc < 2 ^ i)
       → (r + still d p (drop (i + 1) d.layouts) (i + 1) c ≡ live_after d p c) × (r < 2 ^ (i + 1))
   next_dead i acc r x v t f (h, small) =
@@ -148,6 +161,17 @@ module _ (d : Dealt) (p : Play) (c : ℕ) where
       let q = pow-suc 2 i in
       let w = ap (λ (n : ℕ). 2 ^ n) (add-one i) in
       (omega arith, omega arith)
+
+  -- either way, by whether the card is among those that are legal in it
+  pub next_layout : (i acc r x : ℕ) → x ≡ legal_there d p i → i < 64
+      → (has x c ≡ true → (k : ℕ) → has r k ≡ (has acc k || (eqb k i && ltb k 64))) → (has x c ≡ false → r ≡ acc)
+      → (acc + still d p (drop i d.layouts) i c ≡ live_after d p c) × (acc < 2 ^ i)
+      → (r + still d p (drop (i + 1) d.layouts) (i + 1) c ≡ live_after d p c) × (r < 2 ^ (i + 1))
+  next_layout i acc r x v l added same h = by (has x c) refl
+    where
+      by : (b : Bool) → has x c ≡ b → (r + still d p (drop (i + 1) d.layouts) (i + 1) c ≡ live_after d p c) × (r < 2 ^ (i + 1))
+      by true t = next_live i acc r x v (sym t) l (added t) h
+      by false t = next_dead i acc r x v (sym t) (same t) h
 
   pub all_live : (n acc : ℕ) → length d.layouts ≤ n → acc + still d p (drop n d.layouts) n c ≡ live_after d p c → acc ≡ live_after d p c
   all_live n acc l h =

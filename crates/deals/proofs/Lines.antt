@@ -1,6 +1,5 @@
 -- The line of positions of a card game, by where its course of play stands.
-use Rattle.std.proofs.Common.{◌≡◌, ℕ, zero, suc, ◌<◌, Bool, true, false, cond, eqb, ltb, List, [], ◌∷◌, map, length, get_or, Some, None, Option, sym, refl, ap, ◌∙◌, subst, arith}
-use lib.Count.{ones}
+use Rattle.std.proofs.Common.{◌≡◌, ℕ, zero, suc, ◌<◌, Bool, true, false, cond, eqb, ltb, List, [], ◌∷◌, map, length, get_or, Some, None, Option, sym, refl, ap, ◌∙◌, subst, arith, count_ones}
 use Rattle.std.proofs.lemmas.Bool.{ltb-true, ne_eqb}
 use Rattle.bitsets.proofs.Digits.{ones_zero, ones_none}
 use Rattle.games.specs.Trees.{Tree, Line, key_of, height_of, side_of, score_of, children_of, count, place_or, child, can_play, after_play}
@@ -10,11 +9,11 @@ use Rattle.deals.specs.Stands.{Stand, choices, after_legal, can_go_on, after_pla
 use Rattle.deals.proofs.Choices.{legal_at}
 
 -- no card is left, or some are
-by_height : (x : ℕ) (P : Bool → ℕ → Type 0) → P true 0 → ((n : ℕ) → P false (suc n)) → P (eqb x 0) (ones x)
+by_height : (x : ℕ) (P : Bool → ℕ → Type 0) → P true 0 → ((n : ℕ) → P false (suc n)) → P (eqb x 0) (count_ones x)
 by_height zero P z s = subst (P true) (sym ones_zero) z
-by_height (suc x) P z s = subst (λ (b : Bool). P b (ones (suc x))) (sym (ne_eqb (suc x) 0 (omega arith))) (go (ones (suc x)) refl)
+by_height (suc x) P z s = subst (λ (b : Bool). P b (count_ones (suc x))) (sym (ne_eqb (suc x) 0 (omega arith))) (go (count_ones (suc x)) refl)
   where
-    go : (n : ℕ) → ones (suc x) ≡ n → P false n
+    go : (n : ℕ) → count_ones (suc x) ≡ n → P false n
     go zero e = let h = ones_none (suc x) e in absurd (omega arith)
     go (suc n) e = s n
 
@@ -36,7 +35,7 @@ module _ {S : Type 0} (score : Play → S) (d : Dealt) where
     pub line_key : card_key d p ≡ key_of (position d score p)
     line_key = by_height p.unplayed (λ b n. card_key d p ≡ key_of (tree d score n p)) refl (λ n. refl)
 
-    pub line_height : ones p.unplayed ≡ height_of (position d score p)
+    pub line_height : count_ones p.unplayed ≡ height_of (position d score p)
     line_height = by_height p.unplayed (λ b n. n ≡ height_of (tree d score n p)) refl (λ n. refl)
 
   grown_count : (f : ℕ → Tree S) (cs : List ℕ) → length cs ≡ count (grown d score f cs)
@@ -50,25 +49,25 @@ module _ {S : Type 0} (score : Play → S) (d : Dealt) where
 
   module _ (p : Play) where
     -- while a card is legal, some are left
-    some_left : (n : ℕ) → n < length (legal_cards d p) → 0 < ones p.unplayed
+    some_left : (n : ℕ) → n < length (legal_cards d p) → 0 < count_ones p.unplayed
     some_left n l = legal_open d p (get_or (legal_cards d p) n 0) (legal_at d p n (get_or (legal_cards d p) n 0) l refl)
 
     pub line_children : length (legal_cards d p) ≡ count (children_of (position d score p))
-    line_children = go (ones p.unplayed) refl
+    line_children = go (count_ones p.unplayed) refl
       where
-        none : (m : ℕ) → length (legal_cards d p) ≡ m → ones p.unplayed ≡ 0 → m ≡ 0
+        none : (m : ℕ) → length (legal_cards d p) ≡ m → count_ones p.unplayed ≡ 0 → m ≡ 0
         none zero e z = refl
         none (suc m) e z = let o = some_left 0 (omega arith) in absurd (omega arith)
 
-        go : (n : ℕ) → ones p.unplayed ≡ n → length (legal_cards d p) ≡ count (children_of (tree d score n p))
+        go : (n : ℕ) → count_ones p.unplayed ≡ n → length (legal_cards d p) ≡ count (children_of (tree d score n p))
         go zero e = none (length (legal_cards d p)) refl e
         go (suc n) e = grown_count (λ c. tree d score n (after_card d p c)) (legal_cards d p)
 
     -- the child at a place is the position after the card at that place
     line_child : (n : ℕ) → n < length (legal_cards d p) → position d score (after_card d p (get_or (legal_cards d p) n 0)) ≡ child (position d score p) n
-    line_child n l = go (ones p.unplayed) refl
+    line_child n l = go (count_ones p.unplayed) refl
       where
-        go : (m : ℕ) → ones p.unplayed ≡ m → position d score (after_card d p (get_or (legal_cards d p) n 0)) ≡ child (tree d score m p) n
+        go : (m : ℕ) → count_ones p.unplayed ≡ m → position d score (after_card d p (get_or (legal_cards d p) n 0)) ≡ child (tree d score m p) n
         go zero e = let o = some_left n l in absurd (omega arith)
         go (suc m) e =
             ap (λ (k : ℕ). tree d score k (after_card d p (get_or (legal_cards d p) n 0)))

@@ -1,6 +1,5 @@
 -- The plain values of the games' positions are those that the theory of card play speaks of.
-use Rattle.std.proofs.Common.{◌≡◌, ℕ, zero, suc, List, [], ◌∷◌, sym, refl, subst}
-use lib.Count.{ones}
+use Rattle.std.proofs.Common.{◌≡◌, ℕ, zero, suc, List, [], ◌∷◌, sym, refl, subst, count_ones}
 use Rattle.lattice.specs.Scores.{Scoring}
 use Rattle.lattice.specs.FamilyScores.{FamilyScore, family_scoring, family_of}
 use Rattle.lattice.specs.TrickScores.{trick_scoring, tricks_of}
@@ -49,13 +48,13 @@ module _ {S C : Type 0} (o : Scoring C) (stands : S → C) (d : Dealt) (value : 
 -- the trick game's value
 pub trick_value : (d : Dealt) (p : Play) → plain trick_scoring tricks_of (position d tricks_won p) ≡ plain trick_scoring (λ c. c) (position d won_score p)
 trick_value d p =
-    same_plain trick_scoring tricks_of d tricks_won won_score (λ q. code_stands trick_scoring trick_laws (won_score q) (won_score q).number refl) (ones p.unplayed) p
+    same_plain trick_scoring tricks_of d tricks_won won_score (λ q. code_stands trick_scoring trick_laws (won_score q) (won_score q).number refl) (count_ones p.unplayed) p
 
 -- the plan game's value
 pub plan_value : (d : Dealt) (target : ℕ) (p : Play) → plain family_scoring family_of (position d (sets_made target) p) ≡ plan_family d target p
 plan_value d target p =
     same_plain family_scoring family_of d (sets_made target) (plan_score target)
-    (λ q. code_stands family_scoring family_laws (plan_score target q) (plan_score target q).number refl) (ones p.unplayed) p
+    (λ q. code_stands family_scoring family_laws (plan_score target q) (plan_score target q).number refl) (count_ones p.unplayed) p
 
 -- so that it has exactly the sets of layouts in each of which one plan makes the target
 pub beaten : (s : Course) (target : ℕ) (v : FamilyScore) → v ≡ plan_family (stand_of s).deal target (stand_of s).present → Beaten (stand_of s) target v

@@ -1,13 +1,12 @@
 -- What a course keeps only as a proposition, in full: that its deal is valid, and that each state came by a legal card.
 use Rattle.std.specs.Prelude.{◌≡◌, ℕ, zero, suc, ◌-◌, ◌^◌, ◌<◌, true, List, [], ◌∷◌, count_ones}
 use Rattle.std.proofs.Math.Path.{sym, ap}
-use Rattle.std.proofs.Common.{◌∙◌, subst, pow-suc, lit<, pow_pos}
+use Rattle.std.proofs.Common.{◌∙◌, subst, pow-suc, lit<, pow_pos, arith}
 use Rattle.std.proofs.Math.Bool.{Bool-set}
 use mathlib.Core.List.{is_set}
 use Rattle.std.proofs.Math.Logic.{∥∥₁_elim, ∥∥₁_map}
 use Rattle.std.proofs.Math.Nat.{ℕ_set}
 use Rattle.std.proofs.Math.Bridge.{le_prop}
-use native.Mathlib.Omega.{arith}
 use Rattle.std.specs.Int.Count.{count_trailing_zeros}
 use Rattle.std.proofs.Math.Pow.{pow-lt}
 use Rattle.std.proofs.lemmas.Bool.{eqb-true}

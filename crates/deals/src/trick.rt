@@ -63,6 +63,7 @@ impl Trick {
 }
 
 /// Whether a card beats the best one before it in its trick.
+#[tactic(auto, using(crate::proofs::Beats::same_suit))]
 pub(crate) fn beats(problem: &Problem, card: Card, best: Card) -> bool
     ensures { result ≡ beats (dealt_of problem.now) (card_code card) (card_code best) }
 {

@@ -1,6 +1,6 @@
 //! The rules of play: which cards are legal, and what a card leads to.
 
-ghost use Rattle.std.specs.Prelude.{◌≡◌, ◌+◌, ◌-◌, ◌%◌, ◌^◌, ◌<◌, ◌≤◌, true, length, if◌then◌else◌, Some, None, count_ones, nat_eq};
+ghost use Rattle.std.specs.Prelude.{◌≡◌, ℕ, ◌+◌, ◌-◌, ◌%◌, ◌^◌, ◌<◌, ◌≤◌, true, false, ◌||◌, ◌&&◌, ◌==◌, nat_lt, length, if◌then◌else◌, Some, None, count_ones, nat_eq};
 ghost use Rattle.bitsets.specs.Sets.{has};
 ghost use Rattle.games.specs.declared.side.Side.TheVariants.{Max, Min};
 ghost use Rattle.cards.specs.Codes.{card_code};
@@ -81,6 +81,17 @@ fn every_layout(problem: &Problem) -> BitSet
     BitSet((1 << problem.layouts().len()) - 1)
 }
 
+/// A set of layouts with one layout more if a card is among those that are legal in it.
+fn with_legal(mut live: BitSet, place: u32, legal: CardSet, card: Card) -> BitSet
+    ensures added { has legal.bits (card_code card) ≡ true → (k : ℕ) → has result.0 k ≡ (has live.0 k || (k == place && nat_lt k 64)) }
+    ensures same { has legal.bits (card_code card) ≡ false → result.0 ≡ live.0 }
+{
+    if legal.contains(card) {
+        live = live.with(place);
+    }
+    live
+}
+
 impl State {
     /// The state before the first card.
     pub fn first(problem: &Problem) -> State
@@ -148,6 +159,7 @@ impl State {
     }
 
     /// The legal cards: those that are legal in a live layout.
+    #[tactic(auto, using(crate::proofs::Layouts::more_hands))]
     pub fn legal(self, problem: &Problem) -> CardSet
         ensures { result.bits ≡ legal_set (dealt_of problem.now) (play_of self) }
     {
@@ -164,9 +176,7 @@ impl State {
     {
         let mut live = BitSet::EMPTY;
         for place in 0..LAYOUTS {
-            if self.legal_in(problem, place).contains(card) {
-                live = live.with(place);
-            }
+            live = with_legal(live, place, self.legal_in(problem, place), card);
         }
         live
     }

@@ -1,13 +1,9 @@
-use Rattle.std.proofs.Common.{sym, ap, ◌∙◌, rules}
+use Rattle.std.proofs.Common.{sym, ap, ◌∙◌}
 use Rattle.std.specs.Option.{option_map}
 use Rattle.cards.specs.Codes.{suit_code}
 use Rattle.deals.specs.Dealing.{dealt_of}
-use Rattle.deals.proofs.Beats.{same_suit, other_suit}
+use Rattle.deals.proofs.Beats.{other_suit}
 use Rattle.deals.proofs.trick.beats.Goals as goal
-
-pub returns-then-code : goal.returns-then-code
-returns-then-code c =
-    let e = same_suit (dealt_of c.args.problem.now) c.args.card c.args.best (search rules) in cc
 
 pub returns-in-Some : goal.returns-in-Some
 returns-in-Some c =

@@ -1,5 +1,4 @@
-use Rattle.std.proofs.Common.{ℕ, sym, ap, ◌∙◌, rules}
-use lib.Bits.{bit_and}
+use Rattle.std.proofs.Common.{ℕ, bit_and, sym, ap, ◌∙◌, rules}
 use Rattle.std.proofs.lemmas.Bool.{cond-true}
 use Rattle.bitsets.specs.Sets.{has}
 use Rattle.cardplay.specs.Cards.{hand, may_play}
