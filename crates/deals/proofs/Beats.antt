@@ -47,13 +47,18 @@ module _ (ls : List Layout) (n : ℕ) (a b : Card) where
   by_trump t n = simp (code_suit, code_rank) (grind (arith, nat_tests))
 
 -- of one suit the higher card is the better one, and of two suits only a trump beats the other card
-pub same_suit : (p : Problem) (a b : Card) (x y : ℕ) → x ≡ rank_code a.rank → y ≡ rank_code b.rank → suit_code a.suit ≡ suit_code b.suit
-    → ltb y x ≡ beats (dealt_of p) (card_code a) (card_code b)
+pub same_suit : (d : Dealt) (a b : Card) → suit_code a.suit ≡ suit_code b.suit
+    → ltb (rank_code b.rank) (rank_code a.rank) ≡ beats d (card_code a) (card_code b)
 unfolding of_trump
-same_suit p a b x y e f g = let d = dealt_of p in let h = by_rank d.layouts d.leader a b d.trump g in cc
+same_suit d a b = by_rank d.layouts d.leader a b d.trump
 
 pub other_suit : (d : Dealt) (a b : Card) (t : ℕ) → d.trump ≡ Some t → (suit_code a.suit ≡ suit_code b.suit → ⊥)
     → eqb (suit_code a.suit) t ≡ beats d (card_code a) (card_code b)
 unfolding of_trump
 other_suit d a b t e n =
     by_trump d.layouts d.leader a b t n ∙ ap (λ (o : Option ℕ). beats (of_trump d.layouts d.leader a b o) (card_code a) (card_code b)) (sym e)
+
+-- the first of them over the numbers that the code compares
+pub higher_rank : (p : Problem) (a b : Card) (x y : ℕ) → x ≡ rank_code a.rank → y ≡ rank_code b.rank → suit_code a.suit ≡ suit_code b.suit
+    → ltb y x ≡ beats (dealt_of p) (card_code a) (card_code b)
+higher_rank p a b x y e f g = let h = same_suit (dealt_of p) a b g in cc

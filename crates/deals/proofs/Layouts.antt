@@ -82,7 +82,7 @@ module _ (d : Dealt) (p : Play) where
   hands_from (l ∷ ls) (suc i) j = hands_from ls i j
 
   -- the cards of one layout more, and of all
-  next_hand : (i acc x r : ℕ) → x ≡ legal_there d p i → r ≡ bit_or acc x
+  pub next_hand : (i acc x r : ℕ) → x ≡ legal_there d p i → r ≡ bit_or acc x
       → bit_or acc (some_hands d p (drop i d.layouts) i) ≡ legal_set d p
       → bit_or r (some_hands d p (drop (i + 1) d.layouts) (i + 1)) ≡ legal_set d p
   next_hand i acc x r e f h =
@@ -131,7 +131,7 @@ module _ (d : Dealt) (p : Play) (c : ℕ) where
   legal_now i x b v t = sym (t ∙ ap (λ (n : ℕ). has n c) v ∙ if_live (layout d i) (has p.live i))
 
   -- the layouts so far with the next one, or without it
-  next_live : (i acc r x : ℕ) → x ≡ legal_there d p i → true ≡ has x c → i < 64 → ((k : ℕ) → has r k ≡ (has acc k || (eqb k i && ltb k 64)))
+  pub next_live : (i acc r x : ℕ) → x ≡ legal_there d p i → true ≡ has x c → i < 64 → ((k : ℕ) → has r k ≡ (has acc k || (eqb k i && ltb k 64)))
       → (acc + still d p (drop i d.layouts) i c ≡ live_after d p c) × (acc < 2 ^ i)
       → (r + still d p (drop (i + 1) d.layouts) (i + 1) c ≡ live_after d p c) × (r < 2 ^ (i + 1))
   next_live i acc r x v t l m (h, small) =
@@ -151,7 +151,7 @@ module _ (d : Dealt) (p : Play) (c : ℕ) where
           has_ext r (bit_or acc (2 ^ i)) (λ k. m k ∙ ap (λ (b : Bool). has acc k || b) (fits k ∙ sym (has_pow i k)) ∙ sym (has_or acc (2 ^ i) k))
           ∙ or_pow_new acc i (has_high i acc i small (omega arith))
 
-  next_dead : (i acc r x : ℕ) → x ≡ legal_there d p i → false ≡ has x c → r ≡ acc
+  pub next_dead : (i acc r x : ℕ) → x ≡ legal_there d p i → false ≡ has x c → r ≡ acc
       → (acc + still d p (drop i d.layouts) i c ≡ live_after d p c) × (acc < 2 ^ i)
       → (r + still d p (drop (i + 1) d.layouts) (i + 1) c ≡ live_after d p c) × (r < 2 ^ (i + 1))
   next_dead i acc r x v t f (h, small) =

@@ -63,7 +63,7 @@ impl Trick {
 }
 
 /// Whether a card beats the best one before it in its trick.
-#[tactic(auto, using(crate::proofs::Beats::same_suit))]
+#[tactic(auto, using(crate::proofs::Beats::higher_rank))]
 pub(crate) fn beats(problem: &Problem, card: Card, best: Card) -> bool
     ensures { result ≡ beats (dealt_of problem.now) (card_code card) (card_code best) }
 {

@@ -1,4 +1,4 @@
--- The laws of a score type as one record: in an answer of generic code, `laws-of g.met.S.Lattice`.
+-- The laws of a score type as one record: in an answer of generic code, `laws_of g.met.S.Lattice`.
 use seplogic.Ra.Ura.{Ura}
 use prog.Model.{Model}
 use prog.Routine.{Env}
