@@ -1,7 +1,9 @@
 //! The analyst, and the calls that need no ticket.
 
-ghost use Rattle.std.specs.Prelude.{◌≡◌};
-ghost use Rattle.analyst.specs.Calls.{makes, loads, plays, takes_back, clears, answered, left};
+ghost use Rattle.std.specs.Prelude.{◌≡◌, [], ◌∷◌};
+ghost use Rattle.analyst.specs.declared.refusal.Refusal.TheVariants.{SearchOpen};
+ghost use Rattle.analyst.specs.Questions.{◌unless◌, asked};
+ghost use Rattle.analyst.specs.Calls.{makes, loads, plays, takes_back, clears, none_open, answered, left};
 ghost use Rattle.analyst.specs.Model.{state_of};
 
 use crate::refusal::Refusal;
@@ -54,6 +56,16 @@ impl<G: Game + Drop, T: Table, P: Policy> Analyst<G, T, P> {
         }
     }
 
+    /// Refused (1) while a search is open.
+    pub(crate) fn at_rest(&self) -> Result<(), Refusal>
+        ensures { result ≡ asked (SearchOpen unless none_open (state_of G.Score.Lattice.stands G.Game.line T.Table.model P.Policy.model self.now).search ∷ []) tt }
+    {
+        if self.search.is_some() {
+            return Err(Refusal::SearchOpen);
+        }
+        Ok(())
+    }
+
     /// Puts another game in the place of the present one, and clears the table.
     /// Refused (1) while a search is open; the game offered is then gone.
     pub fn load(&mut self, game: G) -> Result<(), Refusal>
@@ -63,9 +75,7 @@ impl<G: Game + Drop, T: Table, P: Policy> Analyst<G, T, P> {
             ≡ left (λ a. a) (state_of G.Score.Lattice.stands G.Game.line T.Table.model P.Policy.model self.old)
             (loads T.Table.ops (state_of G.Score.Lattice.stands G.Game.line T.Table.model P.Policy.model self.old) (G.Game.line game)) }
     {
-        if self.search.is_some() {
-            return Err(Refusal::SearchOpen);
-        }
+        self.at_rest()?;
         self.engine.game = game;
         self.clear();
         Ok(())
@@ -79,9 +89,7 @@ impl<G: Game + Drop, T: Table, P: Policy> Analyst<G, T, P> {
             ≡ left (λ a. a) (state_of G.Score.Lattice.stands G.Game.line T.Table.model P.Policy.model self.old)
             (plays (state_of G.Score.Lattice.stands G.Game.line T.Table.model P.Policy.model self.old) place) }
     {
-        if self.search.is_some() {
-            return Err(Refusal::SearchOpen);
-        }
+        self.at_rest()?;
         if self.engine.game.play(place) {
             Ok(())
         } else {
@@ -97,9 +105,7 @@ impl<G: Game + Drop, T: Table, P: Policy> Analyst<G, T, P> {
             ≡ left (λ a. a) (state_of G.Score.Lattice.stands G.Game.line T.Table.model P.Policy.model self.old)
             (takes_back (state_of G.Score.Lattice.stands G.Game.line T.Table.model P.Policy.model self.old)) }
     {
-        if self.search.is_some() {
-            return Err(Refusal::SearchOpen);
-        }
+        self.at_rest()?;
         if self.engine.game.take_back() {
             Ok(())
         } else {

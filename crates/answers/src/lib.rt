@@ -30,7 +30,8 @@ pub fn without_line_feed(line: &[u8]) -> &[u8]
     }
 }
 
-fn of_fault(
+/// The text for a line with a fault: its number, E, and the fault's number, field and byte.
+pub fn of_fault(
     heap: Global,
     number: u64,
     kind: u8,

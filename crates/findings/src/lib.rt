@@ -3,28 +3,16 @@
 #![tactic(auto)]
 
 ghost use Rattle.std.specs.Prelude.{◌≡◌, IfOk, string_bytes};
-ghost use Rattle.answers.specs.Answers.{fault_text};
 ghost use Rattle.findings.specs.Findings.{answer_text};
 ghost use Rattle.findings.specs.Right.{AnswerRight};
 ghost use Rattle.lines.specs.Reading.{read_line};
 
+use answers::of_fault;
 use lines::Goal;
 use std::alloc::{AllocError, Global};
 
 mod found;
 mod searched;
-
-fn of_fault(
-    heap: Global,
-    number: u64,
-    kind: u8,
-    field: usize,
-    byte: usize,
-) -> Result<String, AllocError>
-    ensures { IfOk result (λ s. string_bytes s ≡ fault_text number kind field byte) }
-{
-    format!(in heap; "{number},E,{kind},{field},{byte}")
-}
 
 /// The text for a line, with no theorem about it yet.
 fn text(heap: Global, number: u64, line: &[u8]) -> Result<String, AllocError>

@@ -50,9 +50,7 @@ impl<G: Game + Drop, T: Table, P: Policy> Analyst<G, T, P> {
             ≡ left (λ y. y.stack) (stack_of G.Score.Lattice.stands stack.old) (begins G.Score.Lattice.scoring
             (state_of G.Score.Lattice.stands G.Game.line T.Table.model P.Policy.model self.old) job (scored G.Score.Lattice.stands window) (stack_of G.Score.Lattice.stands stack.old)) }
     {
-        if self.search.is_some() {
-            return Err(Refusal::SearchOpen);
-        }
+        self.at_rest()?;
         if job <= self.jobs {
             return Err(Refusal::JobNotNew);
         }
