@@ -1,14 +1,14 @@
 -- Numbers as sets of their binary digits: `has` of the bit operations, of sums and of differences, counts, and equality by digits.
-use Rattle.std.proofs.Common.{◌≡◌, ℕ, zero, suc, ◌+◌, ◌-◌, ◌*◌, ◌/◌, ◌%◌, ◌^◌, ◌<◌, ◌≤◌, Bool, true, false, cond, not, ◌&&◌, ◌||◌, eqb, ◌⊎◌, sym, refl, ap, ◌∙◌, subst, inl, inr, suc-le-suc, zero-le, lt_of_lt_of_le, mod-lt, zero-lt-suc, zero-add, div-one, one-add, arith, pow_pos, pow_mono, shr-shr}
+use Rattle.std.proofs.Common.{◌≡◌, ℕ, zero, suc, ◌+◌, ◌-◌, ◌*◌, ◌/◌, ◌%◌, ◌^◌, ◌<◌, ◌≤◌, Bool, true, false, cond, not, ◌&&◌, ◌||◌, eqb, ◌⊎◌, sym, refl, ap, ◌∙◌, subst, inl, inr, suc-le-suc, zero-le, lt_of_lt_of_le, mod-lt, zero-lt-suc, zero-add, div-one, one-add, arith, pow_pos, pow_mono, shr-shr, bit_and, bit_or, bit_xor}
 use mathlib.Core.Bool.{beq}
 use native.Mathlib.Nat.{zero-div, div-eq_of_lt, pow-succ'}
 use lib.Dec.{eqb-suc-zero, eqb-zero-suc, eqb-suc-suc}
-use lib.Bits.{bit_and, bit_or, bit_xor, xor_shr, xor_mod, xor_add_and, xor_disjoint, and_mask, and_shr, or_shr, and_mod, or_mod, or_disjoint, and_comm, and_step, or_step, or_lt, and_le_r, shifted_half, shifted_even}
-use lib.Pow.{shl-shr, pow-lt}
+use lib.Bits.{xor_add_and, xor_disjoint, and_step, or_step, shifted_half, shifted_even}
+use lib.Pow.{pow-lt}
 use lib.Arith.{bin_ind}
 use lib.Count.{ones, ones_step, count_trailing_zeros, under}
 use Rattle.std.proofs.lemmas.Bool.{both_ways, eqb-true, eq-eqb, ne_eqb, cases_lt, cases_eq, and_parts, and_from, or_cases, or_left, or_right, not-true, not-false, cond_both, true≢false, false≢true}
-use Rattle.std.proofs.lemmas.Nat.{le-div, one_shl}
+use Rattle.std.proofs.lemmas.Nat.{le-div, one_shl, xor_shr, xor_mod, and_mask, and_shr, or_shr, and_mod, or_mod, or_disjoint, and_comm, or_lt, and_le_r, shl-shr}
 use Rattle.bitsets.specs.Sets.{has, Part}
 
 two_pos : zero < 2

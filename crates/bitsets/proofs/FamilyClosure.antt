@@ -1,7 +1,7 @@
 -- What the operations on families give is a family again.
-use Rattle.std.proofs.Common.{◌≡◌, ℕ, ◌-◌, ◌^◌, true, ◌⊎◌, sym, ◌∙◌, subst, inl, inr, arith, lit<}
-use lib.Bits.{bit_and, bit_or, and_le_l, or_lt}
+use Rattle.std.proofs.Common.{◌≡◌, ℕ, ◌-◌, ◌^◌, true, ◌⊎◌, sym, ◌∙◌, subst, inl, inr, arith, lit<, bit_and, bit_or}
 use Rattle.std.proofs.lemmas.Bool.{both_ways, eqb-true, eq-eqb}
+use Rattle.std.proofs.lemmas.Nat.{and_le_l, or_lt}
 use Rattle.bitsets.specs.Sets.{has, Part}
 use Rattle.bitsets.proofs.Digits.{has_zero, has_pow, pow_has, part_le, part_of_zero, has_all, all_has, and_has, and_has_l, and_has_r, or_has, or_has_l, or_has_r, below_pow}
 use Rattle.bitsets.specs.Families.{IsFamily, parts_below}

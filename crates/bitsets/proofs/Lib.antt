@@ -4,4 +4,5 @@ pub mod FamilyParts
 pub mod FamilyTest
 pub mod Lowest
 pub mod Members
+pub mod Placed
 pub mod Words

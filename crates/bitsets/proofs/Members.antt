@@ -1,12 +1,10 @@
 -- The members of a set as a list: their number, the place of a member, and the member at a place.
-use Rattle.std.proofs.Common.{◌≡◌, ℕ, zero, suc, ◌+◌, ◌-◌, ◌*◌, ◌/◌, ◌%◌, ◌^◌, ◌<◌, ◌≤◌, true, false, cond, eqb, ◌⊎◌, List, [], ◌∷◌, length, get_or, sym, refl, ap, ◌∙◌, subst, inl, inr, suc-le-suc, zero-le, add-zero, mod-lt, suc-add, zero-add, div-one, add-one, arith, pow_pos, shr-shr}
+use Rattle.std.proofs.Common.{◌≡◌, ℕ, zero, suc, ◌+◌, ◌-◌, ◌*◌, ◌/◌, ◌%◌, ◌^◌, ◌<◌, ◌≤◌, true, false, cond, eqb, ◌⊎◌, List, [], ◌∷◌, length, get_or, sym, refl, ap, ◌∙◌, subst, inl, inr, suc-le-suc, zero-le, add-zero, mod-lt, suc-add, zero-add, div-one, add-one, arith, pow_pos, shr-shr, bit_and}
 use native.Mathlib.Nat.{mod-one, div-eq_of_lt, pow-succ'}
-use lib.Bits.{bit_and, and_mask}
-use lib.Pow.{mod-pow-add}
-use lib.Count.{ones, ones_step, ones_cat}
+use lib.Count.{ones, ones_step}
 use Rattle.std.proofs.lemmas.Bool.{eqb-true, eqb-false, cases_Bool, cases_lt, cond_both, cond-true, cond-false}
 use Rattle.bitsets.specs.Sets.{has, members_from, members}
-use Rattle.std.proofs.lemmas.Nat.{div-add-mod'}
+use Rattle.std.proofs.lemmas.Nat.{div-add-mod', and_mask, mod-pow-add, ones_cat}
 use Rattle.bitsets.proofs.Digits.{ones_zero, ones_pos, has_shr, has_high}
 
 -- ---- the list of a set's members

@@ -1,9 +1,8 @@
 -- The forms that code on a word of bits writes, by their members.
-use Rattle.std.proofs.Common.{◌≡◌, ℕ, ◌-◌, ◌*◌, ◌%◌, ◌^◌, ◌<◌, ◌≤◌, Bool, true, false, not, ◌&&◌, ◌||◌, eqb, ltb, ◌⊎◌, sym, refl, ap, ◌∙◌, inl, inr, arith}
-use lib.Bits.{bit_and, bit_or, or_lt}
+use Rattle.std.proofs.Common.{◌≡◌, ℕ, ◌-◌, ◌*◌, ◌%◌, ◌^◌, ◌<◌, ◌≤◌, Bool, true, false, not, ◌&&◌, ◌||◌, eqb, ltb, ◌⊎◌, sym, refl, ap, ◌∙◌, inl, inr, arith, bit_and, bit_or}
 use lib.Pow.{pow-lt}
 use Rattle.std.proofs.lemmas.Bool.{ne_eqb, lt-ltb, le-ltb, cases_lt, cases_eq}
-use Rattle.std.proofs.lemmas.Nat.{one_shl}
+use Rattle.std.proofs.lemmas.Nat.{one_shl, or_lt}
 use Rattle.bitsets.specs.Sets.{has}
 use Rattle.bitsets.proofs.Digits.{has_and, has_or, has_pow, has_high, has_without}
 
@@ -62,3 +61,17 @@ remove_past w s m k h l = by (cases_eq k m)
     by : (k ≡ m) ⊎ (k ≡ m → ⊥) → has s k ≡ (has s k && not (eqb k m))
     by (inl e) = let f = has_high w s k h (omega arith) in f ∙ ap (λ (b : Bool). b && not (eqb k m)) (sym f)
     by (inr n) = sym (ap (λ (b : Bool). has s k && not b) (ne_eqb k m n) ∙ and_true (has s k))
+
+-- ---- in a word of 64 bits, as goals print it
+
+pub insert_has : (s m k : ℕ) → m < 64 → has (bit_or s ((1 * 2 ^ m) % 18446744073709551616)) k ≡ (has s k || (eqb k m && ltb k 64))
+insert_has s m k l = has_insert 64 s m k l
+
+pub insert_small : (s m n : ℕ) → m < 64 → s < 2 ^ n → m < n → bit_or s ((1 * 2 ^ m) % 18446744073709551616) < 2 ^ n
+insert_small s m n l h b = insert_below 64 s m n l h b
+
+pub remove_has : (s m k : ℕ) → s < 2 ^ 64 → m < 64 → has (bit_and s (18446744073709551615 - (1 * 2 ^ m) % 18446744073709551616)) k ≡ (has s k && not (eqb k m))
+remove_has s m k h l = has_remove 64 s m k h l
+
+pub remove_none : (s m k : ℕ) → s < 2 ^ 64 → 64 ≤ m → has s k ≡ (has s k && not (eqb k m))
+remove_none s m k h l = remove_past 64 s m k h l

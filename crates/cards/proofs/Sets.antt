@@ -1,8 +1,7 @@
 -- The cards of a suit by their codes, and a card put into a set, as numbers.
-use Rattle.std.proofs.Common.{◌≡◌, ℕ, ◌+◌, ◌-◌, ◌*◌, ◌/◌, ◌%◌, ◌^◌, ◌<◌, Bool, true, ◌||◌, eqb, sym, ap, ◌∙◌, arith, lit<}
-use lib.Bits.{bit_or}
+use Rattle.std.proofs.Common.{◌≡◌, ℕ, ◌+◌, ◌-◌, ◌*◌, ◌/◌, ◌%◌, ◌^◌, ◌<◌, Bool, true, ◌||◌, eqb, sym, ap, ◌∙◌, arith, lit<, bit_or}
 use Rattle.std.proofs.lemmas.Bool.{eqb-true, eq-eqb}
-use Rattle.std.proofs.lemmas.Nat.{shl_whole}
+use Rattle.std.proofs.lemmas.Nat.{shl_whole, or_lt}
 use Rattle.bitsets.specs.Sets.{has}
 use Rattle.bitsets.proofs.Digits.{same_test, has_or, has_pow, has_ext, below_pow, has_shifted, shifted_has, has_all, all_has}
 use Rattle.cards.specs.Codes.{suit_cards}
@@ -35,3 +34,6 @@ suit_small s l =
 pub with_value : (s r c : ℕ) → ((k : ℕ) → has r k ≡ (has s k || eqb k c)) → r ≡ bit_or s (2 ^ c)
 with_value s r c f =
     has_ext r (bit_or s (2 ^ c)) (λ k. f k ∙ ap (λ (b : Bool). has s k || b) (sym (has_pow c k)) ∙ sym (has_or s (2 ^ c) k))
+
+pub union_small : (a b : ℕ) → a < 4503599627370496 → b < 4503599627370496 → bit_or a b < 4503599627370496
+union_small a b f g = or_lt 52 a b f g

@@ -1,10 +1,11 @@
 -- The codes of suits, ranks and cards.
-use Rattle.std.specs.Prelude.{ℕ, ◌+◌, ◌-◌, ◌*◌, ◌^◌}
+use Rattle.std.specs.Prelude.{◌≡◌, ℕ, ◌+◌, ◌-◌, ◌*◌, ◌^◌, ◌≤◌, Result, MatchResult}
 use Rattle.cards.specs.declared.card.Suit.{Suit}
 use Rattle.cards.specs.declared.card.Suit.TheVariants.{Clubs, Diamonds, Hearts, Spades}
 use Rattle.cards.specs.declared.card.Rank.{Rank}
 use Rattle.cards.specs.declared.card.Rank.TheVariants.{Two, Three, Four, Five, Six, Seven, Eight, Nine, Ten, Jack, Queen, King, Ace}
 use Rattle.cards.specs.declared.card.Card.{Card}
+use Rattle.cards.specs.declared.card.UnknownCode.{UnknownCode}
 
 abbrev pub suit_code : Suit → ℕ
 suit_code Clubs = 0
@@ -33,3 +34,7 @@ card_code c = 13 * suit_code c.suit + rank_code c.rank
 -- the cards of the suit with a code, as a set: thirteen digits from 13 × suit on
 abbrev pub suit_cards : ℕ → ℕ
 suit_cards s = (2 ^ 13 - 1) * 2 ^ (13 * s)
+
+-- the result is the value with this code; an error only for a number from the first on that is no code, and with that number
+abbrev pub Decodes : {T : Type 0} → (T → ℕ) → ℕ → ℕ → Result T UnknownCode → Type 0
+Decodes code_of past code r = MatchResult r (λ x. code_of x ≡ code) (λ e. (e.0 ≡ code) × (past ≤ code))

@@ -1,9 +1,10 @@
 //! A card is a suit and a rank; its code is 13 × suit + rank, from 0 to 51.
 
-ghost use Rattle.std.specs.Prelude.{◌≡◌, ◌<◌, ◌≤◌, MatchOption};
-ghost use Rattle.cards.specs.Codes.{suit_code, rank_code, card_code};
+ghost use Rattle.std.specs.Prelude.{◌≡◌, ◌<◌};
+ghost use Rattle.cards.specs.Codes.{suit_code, rank_code, card_code, Decodes};
 
-#[derive(Clone, Copy, PartialEq, Eq, Debug)]
+/// The suits in rising code: clubs 0, diamonds 1, hearts 2, spades 3.
+#[derive(Clone, Copy, PartialEq, Eq, PartialOrd, Ord, Debug)]
 pub enum Suit {
     Clubs,
     Diamonds,
@@ -11,7 +12,8 @@ pub enum Suit {
     Spades,
 }
 
-#[derive(Clone, Copy, PartialEq, Eq, Debug)]
+/// The ranks in rising code: the twos 0, and so on to the aces 12.
+#[derive(Clone, Copy, PartialEq, Eq, PartialOrd, Ord, Debug)]
 pub enum Rank {
     Two,
     Three,
@@ -28,82 +30,91 @@ pub enum Rank {
     Ace,
 }
 
-#[derive(Clone, Copy, PartialEq, Eq, Debug)]
+/// A card. The order of cards is that of their codes.
+#[derive(Clone, Copy, PartialEq, Eq, PartialOrd, Ord, Debug)]
 pub struct Card {
     pub suit: Suit,
     pub rank: Rank,
 }
 
-impl Suit {
-    /// Clubs 0, diamonds 1, hearts 2, spades 3.
-    pub fn code(self) -> u8
-        ensures value { result ≡ suit_code self }
-        ensures bound { result < 4 }
-    {
-        self as u8
-    }
+/// A number that is no code of what was to be read from it.
+#[derive(Clone, Copy, PartialEq, Eq, Debug)]
+pub struct UnknownCode(pub u8);
 
-    /// The suit with a code.
-    pub fn from_code(code: u8) -> Option<Suit>
-        ensures { MatchOption result (4 ≤ code) (λ s. suit_code s ≡ code) }
-    {
+impl From<Suit> for u8 {
+    ghost from_gives = { λ suit code. (code ≡ suit_code suit) × (code < 4) };
+
+    fn from(suit: Suit) -> u8 {
+        suit as u8
+    }
+}
+
+impl TryFrom<u8> for Suit {
+    type Error = UnknownCode;
+
+    ghost try_from_gives = { Decodes suit_code 4 };
+
+    fn try_from(code: u8) -> Result<Suit, UnknownCode> {
         match code {
-            0 => Some(Suit::Clubs),
-            1 => Some(Suit::Diamonds),
-            2 => Some(Suit::Hearts),
-            3 => Some(Suit::Spades),
-            _ => None,
+            0 => Ok(Suit::Clubs),
+            1 => Ok(Suit::Diamonds),
+            2 => Ok(Suit::Hearts),
+            3 => Ok(Suit::Spades),
+            _ => Err(UnknownCode(code)),
         }
     }
 }
 
-impl Rank {
-    /// The twos 0, and so on to the aces 12.
-    pub fn code(self) -> u8
-        ensures value { result ≡ rank_code self }
-        ensures bound { result < 13 }
-    {
-        self as u8
-    }
+impl From<Rank> for u8 {
+    ghost from_gives = { λ rank code. (code ≡ rank_code rank) × (code < 13) };
 
-    /// The rank with a code.
-    pub fn from_code(code: u8) -> Option<Rank>
-        ensures { MatchOption result (13 ≤ code) (λ s. rank_code s ≡ code) }
-    {
+    fn from(rank: Rank) -> u8 {
+        rank as u8
+    }
+}
+
+impl TryFrom<u8> for Rank {
+    type Error = UnknownCode;
+
+    ghost try_from_gives = { Decodes rank_code 13 };
+
+    fn try_from(code: u8) -> Result<Rank, UnknownCode> {
         match code {
-            0 => Some(Rank::Two),
-            1 => Some(Rank::Three),
-            2 => Some(Rank::Four),
-            3 => Some(Rank::Five),
-            4 => Some(Rank::Six),
-            5 => Some(Rank::Seven),
-            6 => Some(Rank::Eight),
-            7 => Some(Rank::Nine),
-            8 => Some(Rank::Ten),
-            9 => Some(Rank::Jack),
-            10 => Some(Rank::Queen),
-            11 => Some(Rank::King),
-            12 => Some(Rank::Ace),
-            _ => None,
+            0 => Ok(Rank::Two),
+            1 => Ok(Rank::Three),
+            2 => Ok(Rank::Four),
+            3 => Ok(Rank::Five),
+            4 => Ok(Rank::Six),
+            5 => Ok(Rank::Seven),
+            6 => Ok(Rank::Eight),
+            7 => Ok(Rank::Nine),
+            8 => Ok(Rank::Ten),
+            9 => Ok(Rank::Jack),
+            10 => Ok(Rank::Queen),
+            11 => Ok(Rank::King),
+            12 => Ok(Rank::Ace),
+            _ => Err(UnknownCode(code)),
         }
     }
 }
 
-impl Card {
-    /// 13 × suit + rank.
-    pub fn code(self) -> u8
-        ensures value { result ≡ card_code self }
-        ensures bound { result < 52 }
-    {
-        13 * self.suit.code() + self.rank.code()
-    }
+impl From<Card> for u8 {
+    ghost from_gives = { λ card code. (code ≡ card_code card) × (code < 52) };
 
-    /// The card with a code; none from 52 on.
-    pub fn from_code(code: u8) -> Option<Card>
-        ensures { MatchOption result (52 ≤ code) (λ c. card_code c ≡ code) }
-    {
-        let suit = Suit::from_code(code / 13)?;
-        let rank = Rank::from_code(code % 13)?;
-        Some(Card { suit, rank })
+    fn from(card: Card) -> u8 {
+        13 * u8::from(card.suit) + u8::from(card.rank)
+    }
+}
+
+impl TryFrom<u8> for Card {
+    type Error = UnknownCode;
+
+    ghost try_from_gives = { Decodes card_code 52 };
+
+    fn try_from(code: u8) -> Result<Card, UnknownCode> {
+        match (Suit::try_from(code / 13), Rank::try_from(code % 13)) {
+            (Ok(suit), Ok(rank)) => Ok(Card { suit, rank }),
+            _ => Err(UnknownCode(code)),
+        }
     }
 }

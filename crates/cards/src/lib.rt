@@ -5,5 +5,5 @@
 pub mod card;
 pub mod set;
 
-pub use card::{Card, Rank, Suit};
+pub use card::{Card, Rank, Suit, UnknownCode};
 pub use set::CardSet;

@@ -1,8 +1,8 @@
 -- The law of the format: a line is read as a deal exactly when the deal is valid and the line is its written form.
-use Rattle.std.proofs.Common.{◌≡◌, ℕ, ◌<◌, ◌≤◌, Bool, true, false, cond, eqb, List, [], ◌∷◌, length, Ok, Err, codes, Option, sym, refl, ap, ◌∙◌, subst, arith}
-use lib.Bits.{bit_or, and_comm, or_comm}
+use Rattle.std.proofs.Common.{◌≡◌, ℕ, ◌<◌, ◌≤◌, Bool, true, false, cond, eqb, List, [], ◌∷◌, length, Ok, Err, codes, Option, sym, refl, ap, ◌∙◌, subst, arith, bit_or}
 use Rattle.std.specs.List.{AllByRecursion}
 use Rattle.std.proofs.lemmas.Bool.{eqb-true}
+use Rattle.std.proofs.lemmas.Nat.{and_comm, or_comm}
 use Rattle.bitsets.proofs.Digits.{or_assoc}
 use Rattle.bitsets.proofs.Digits.{apart_or, or_apart_l, or_apart_r}
 use Rattle.lines.specs.declared.fault.FaultKind.TheVariants.{Kind, Value, Hand as BadHand}

@@ -1,5 +1,6 @@
 -- The fields of a line, and where a reader of them stands.
-use Rattle.std.specs.Prelude.{ℕ, zero, suc, ◌+◌, cond, List, [], ◌∷◌, length, ◌==◌}
+use Rattle.std.specs.Prelude.{◌≡◌, ℕ, zero, suc, ◌+◌, cond, List, [], ◌∷◌, length, IfSome, MatchOption, Option, ◌==◌}
+use Rattle.lines.specs.declared.fields.Field.{Field}
 use Rattle.lines.specs.declared.fields.Fields.{Fields}
 
 -- a byte put before the first of some fields
@@ -38,3 +39,9 @@ next_spot s = past s.rest s.number s.byte
 -- where a cursor stands
 abbrev pub here : Fields → Spot
 here f = record { rest = split_from f.line.now f.at; number = f.number; byte = f.at + 1 }
+
+-- the next field, or none after the last, and the cursor past it
+pub record IsNext (old : Fields) (field : Option Field) (new : Fields) : Type 0 where
+  pub text : MatchOption field ((here old).rest ≡ []) (λ f. (here old).rest ≡ f.text.now ∷ (here new).rest)
+  pub place : IfSome field (λ f. (f.place.field ≡ (here old).number) × (f.place.byte ≡ (here old).byte))
+  pub goes : here new ≡ next_spot (here old)

@@ -14,8 +14,8 @@ begins_after (p ∷ ps) (suc n) = length p + 1 + begins_after ps n
 pub record AtField (line : List ℕ) (f : Fault) : Type 0 where
   pub before : ℕ
   pub within : before ≤ length (split line)
-  pub field : f.field ≡ before + 1
-  pub byte : f.byte ≡ begins_after (split line) before
+  pub field : f.place.field ≡ before + 1
+  pub byte : f.place.byte ≡ begins_after (split line) before
 
 abbrev pub Placed : List ℕ → Result Deal Fault → Type 0
 Placed line (Ok d) = Unit {0}

@@ -14,7 +14,7 @@ asked_by Tricks = tricks
 asked_by (Plan t) = plan t.0
 
 abbrev pub defence : Layout → Defence
-defence l = record { hand1 = l.hand1.bits; hand3 = l.hand3.bits }
+defence l = record { hand1 = l.hand1; hand3 = l.hand3 }
 
 -- the deal that the parts of a problem tell: the first `count` of the layouts are in use
 abbrev pub deal : Parts → Deal
@@ -23,7 +23,7 @@ deal p =
       asked = asked_by p.goal;
       trump = option_map suit_code p.trump;
       leader = seat_number p.leader;
-      hand0 = p.hand0.bits;
-      hand2 = p.hand2.bits;
+      hand0 = p.hand0;
+      hand2 = p.hand2;
       layouts = map defence (take p.count p.layouts);
     }

@@ -9,7 +9,7 @@ use Rattle.lines.specs.Deals.{tricks, plan, Defence, Deal, both}
 
 -- a fault at the next field
 abbrev pub fault_at : FaultKind → Spot → Fault
-fault_at k s = record { kind = k; field = s.number; byte = s.byte }
+fault_at k s = record { kind = k; place = record { field = s.number; byte = s.byte } }
 
 -- going on with what was read, if it was right
 abbrev pub then : {T U : Type 0} → Result T Fault → (T → Result U Fault) → Result U Fault

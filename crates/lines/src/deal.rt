@@ -4,6 +4,8 @@ ghost use Rattle.std.specs.Prelude.{◌≤◌};
 
 use cards::{CardSet, Suit};
 
+pub mod turns;
+
 /// The seats 0 to 3, which play in turn. North and South are one side, East and West the other.
 #[derive(Clone, Copy, PartialEq, Eq, Debug)]
 pub enum Seat {
@@ -34,6 +36,7 @@ pub struct Layout {
 }
 
 /// What a line says, as it is read: the first `count` of the layouts are in use.
+// Stays an array with a count: a problem is Copy and in no memory of its own, which neither a Vec nor an ArrayVec is.
 #[derive(Clone, Copy)]
 pub(crate) struct Parts {
     pub(crate) goal: Goal,

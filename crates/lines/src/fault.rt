@@ -1,7 +1,9 @@
 //! What can be wrong with a problem line, and where.
 
-ghost use Rattle.std.specs.Prelude.{◌≡◌};
-ghost use Rattle.lines.specs.Faults.{fault_number};
+ghost use Rattle.std.specs.Prelude.{◌≡◌, Some};
+ghost use Rattle.lines.specs.Faults.{fault_number, fault_report};
+
+use std::fmt;
 
 /// What is wrong with a field. The questions are asked in this order, all of one field before those of the next.
 #[derive(Clone, Copy, PartialEq, Eq, Debug)]
@@ -26,6 +28,7 @@ pub enum FaultKind {
 
 impl FaultKind {
     /// The number under which a fault is reported.
+    // Stays a method: the number is promised by this name, and a From beside it would say it twice.
     pub fn number(self) -> u8
         ensures { result ≡ fault_number self }
     {
@@ -45,19 +48,25 @@ pub struct Place {
 #[derive(Clone, Copy, PartialEq, Eq, Debug)]
 pub struct Fault {
     pub kind: FaultKind,
-    pub field: usize,
-    pub byte: usize,
+    pub place: Place,
 }
 
 impl Place {
     /// A fault at this place.
     pub fn fault(self, kind: FaultKind) -> Fault
-        ensures { result ≡ record { kind = kind; field = self.field; byte = self.byte } }
+        ensures { result ≡ record { kind = kind; place = self } }
     {
-        Fault {
-            kind,
-            field: self.field,
-            byte: self.byte,
-        }
+        Fault { kind, place: self }
+    }
+}
+
+/// The fault's number, its field and its byte, parted by commas.
+impl fmt::Display for Fault {
+    ghost output = { λ f. Some (fault_report f) };
+
+    fn fmt<W: fmt::Write>(&self, f: &mut fmt::Formatter<W>) -> fmt::Result {
+        let number = self.kind.number();
+        let Place { field, byte } = self.place;
+        write!(f, "{number},{field},{byte}")
     }
 }

@@ -2,14 +2,15 @@
 
 ghost use Rattle.std.specs.Prelude.{◌+◌, ◌≤◌, length};
 
+use crate::fault::Place;
+
 pub mod cursor;
 
-/// A field: a part of the line, its number and its first byte in the line, both from 1.
+/// A field: a part of the line, and its place.
 #[derive(Clone, Copy)]
 pub struct Field<'a> {
     pub text: &'a [u8],
-    pub number: usize,
-    pub byte: usize,
+    pub place: Place,
 }
 
 /// A cursor over a line's bytes: what comes next is field `number`, which begins `at` bytes into the line.

@@ -8,7 +8,6 @@ ghost use Rattle.lines.specs.Reading.{field, hand_at, first_cards, agrees, layou
 ghost use Rattle.lines.specs.Spelling.{size};
 ghost use Rattle.lines.specs.Told.{deal_of, on_ok};
 ghost use Rattle.lines.specs.Written.{Right};
-ghost use Rattle.std.specs.Option.{option_map};
 
 use crate::deal::{Goal, Layout, Parts, Seat, Target};
 use crate::fault::{Fault, FaultKind};
@@ -34,7 +33,7 @@ fn field<T: Spelled + Drop>(fields: &mut Fields<'_>, bad: FaultKind) -> Result<T
 
 /// A hand as long as another, with no card of some earlier hands.
 fn hand(fields: &mut Fields<'_>, like: CardSet, earlier: CardSet) -> Result<CardSet, Fault>
-    ensures value { on_ok (λ h. h.bits) result ≡ hand_at (size like.bits) earlier.bits (here fields.old) }
+    ensures value { result ≡ hand_at (size like) earlier (here fields.old) }
     ensures goes { here fields.new ≡ next_spot (here fields.old) }
 {
     let place = fields.place();
@@ -85,12 +84,9 @@ fn tricks(fields: &mut Fields<'_>) -> Result<Parts, Fault>
 
 /// Whether a layout's cards are those of the first one, if there is one.
 fn agrees(first: Option<CardSet>, cards: CardSet) -> bool
-    ensures { result ≡ agrees (option_map (λ s. s.bits) first) cards.bits }
+    ensures { result ≡ agrees first cards }
 {
-    match first {
-        Some(first) => cards == first,
-        None => true,
-    }
+    first.is_none_or(|first| cards == first)
 }
 
 /// A layout beside hands 0 and 2; its cards are those of the first layout, if there is one.
@@ -100,7 +96,7 @@ fn layout(
     hand2: CardSet,
     first: Option<CardSet>,
 ) -> Result<Layout, Fault>
-    ensures value { on_ok defence result ≡ layout_at hand0.bits hand2.bits (option_map (λ s. s.bits) first) (here fields.old) }
+    ensures value { on_ok defence result ≡ layout_at hand0 hand2 first (here fields.old) }
     ensures goes { is_ok result ≡ true → here fields.new ≡ next_spot (next_spot (here fields.old)) }
 {
     let ours = hand0.union(hand2);
@@ -113,18 +109,6 @@ fn layout(
     Ok(Layout { hand1, hand3 })
 }
 
-/// The cards of seats 1 and 3 in the first layout, if one is read.
-fn first_cards(layouts: &[Layout], read: usize) -> Option<CardSet>
-    requires { read ≤ length layouts.now }
-    ensures { option_map (λ s. s.bits) result ≡ first_cards (map defence (take read layouts.now)) }
-{
-    if read == 0 {
-        return None;
-    }
-    let first = layouts[0];
-    Some(first.hand1.union(first.hand3))
-}
-
 /// The layouts of a line, which end it.
 fn layouts(
     fields: &mut Fields<'_>,
@@ -132,13 +116,16 @@ fn layouts(
     hand2: CardSet,
     count: LayoutCount,
 ) -> Result<[Layout; 6], Fault>
-    ensures { on_ok (λ a. map defence (take count.count a)) result ≡ layouts_at count.count hand0.bits hand2.bits [] (here fields.old) }
+    ensures { on_ok (λ a. map defence (take count a)) result ≡ layouts_at count hand0 hand2 [] (here fields.old) }
 {
     let mut layouts = [Layout::NONE; 6];
-    for i in 0..count.get() {
-        let first = first_cards(&layouts, i);
-        let next = layout(fields, hand0, hand2, first)?;
-        layouts[i] = next;
+    let mut first = None;
+    for place in &mut layouts[..count.get()] {
+        // `first` is used again below, and a call would take it whole.
+        let known = first;
+        let Layout { hand1, hand3 } = layout(fields, hand0, hand2, known)?;
+        *place = Layout { hand1, hand3 };
+        first = first.or(Some(hand1.union(hand3)));
     }
     end(fields)?;
     Ok(layouts)
@@ -173,11 +160,8 @@ fn parts_of(line: &[u8]) -> Result<Parts, Fault>
     let mut fields = Fields::new(line);
     let place = fields.place();
     match fields.next() {
-        Some(Field { text: [letter], .. }) => match *letter as char {
-            'D' => tricks(&mut fields),
-            'P' => plan(&mut fields),
-            _ => Err(place.fault(FaultKind::Kind)),
-        },
+        Some(Field { text: [b'D'], .. }) => tricks(&mut fields),
+        Some(Field { text: [b'P'], .. }) => plan(&mut fields),
         _ => Err(place.fault(FaultKind::Kind)),
     }
 }

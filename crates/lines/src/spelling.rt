@@ -8,8 +8,10 @@ ghost use Rattle.std.specs.Option.{option_map};
 
 use crate::deal::{Seat, Target};
 use cards::{Card, CardSet, Rank, Suit};
+use std::marker::Model;
 
 /// A value that a field can spell.
+// Stays a trait of its own: Option<Suit> and CardSet are other crates' types, and get no further TryFrom here.
 pub trait Spelled: Sized {
     /// What is told of a value: numbers in the place of suits and seats.
     ghost Told: { Type 0 };
@@ -22,17 +24,29 @@ pub trait Spelled: Sized {
         ensures { option_map told result ≡ spells text.now };
 }
 
-/// How many layouts a line lists.
+/// How many layouts a line lists, from 1 to 6.
 #[derive(Clone, Copy, PartialEq, Eq, Debug)]
 pub struct LayoutCount {
     count: usize,
-    ghost some: { 1 ≤ count },
-    ghost few: { count ≤ 6 },
+}
+
+impl Model for LayoutCount {
+    ghost Value = { ℕ };
+
+    ghost view = { λ c. c.count };
+
+    ghost invariant = { λ c. (1 ≤ c.count) × (c.count ≤ 6) };
+
+    ghost inverse = { λ n. record { count = n } };
 }
 
 impl LayoutCount {
+    /// The number.
+    // Stays a method, as std's numbers that are not 0 have it.
     pub fn get(self) -> usize
-        ensures { result ≡ self.count }
+        ensures value { result ≡ self }
+        ensures some { 1 ≤ result }
+        ensures few { result ≤ 6 }
     {
         self.count
     }
@@ -103,18 +117,17 @@ fn number(text: &[u8]) -> Option<u8>
 
 /// The cards that a text spells in strictly rising code, suit and rank letters in turn.
 fn cards(text: &[u8]) -> Option<CardSet>
-    ensures { option_map (λ s. s.bits) result ≡ cards_of text.now }
+    ensures { result ≡ cards_of text.now }
 {
     let mut rest = text;
-    let mut low = 0;
+    let mut last = None;
     let mut cards = CardSet::EMPTY;
     while let [first, second, more @ ..] = rest {
         let card = card(*first, *second)?;
-        let code = card.code();
-        if code < low {
+        if Some(card) <= last {
             return None;
         }
-        low = code + 1;
+        last = Some(card);
         cards = cards.with(card);
         rest = more;
     }
@@ -130,13 +143,10 @@ impl Spelled for Seat {
 
     fn read(text: &[u8]) -> Option<Seat> {
         match text {
-            [letter] => match *letter as char {
-                '0' => Some(Seat::North),
-                '1' => Some(Seat::East),
-                '2' => Some(Seat::South),
-                '3' => Some(Seat::West),
-                _ => None,
-            },
+            [b'0'] => Some(Seat::North),
+            [b'1'] => Some(Seat::East),
+            [b'2'] => Some(Seat::South),
+            [b'3'] => Some(Seat::West),
             _ => None,
         }
     }
@@ -151,13 +161,8 @@ impl Spelled for Option<Suit> {
 
     fn read(text: &[u8]) -> Option<Option<Suit>> {
         match text {
-            [letter] => match *letter as char {
-                'N' => Some(None),
-                _ => match suit(*letter) {
-                    Some(suit) => Some(Some(suit)),
-                    None => None,
-                },
-            },
+            [b'N'] => Some(None),
+            [letter] => suit(*letter).map(Some),
             _ => None,
         }
     }
@@ -172,7 +177,7 @@ impl Spelled for Target {
 
     fn read(text: &[u8]) -> Option<Target> {
         match number(text) {
-            Some(tricks) if 1 <= tricks && tricks <= 13 => Some(Target(tricks)),
+            Some(tricks @ 1..=13) => Some(Target(tricks)),
             _ => None,
         }
     }
@@ -181,13 +186,13 @@ impl Spelled for Target {
 impl Spelled for LayoutCount {
     ghost Told = { ℕ };
 
-    ghost told = { λ t. t.count };
+    ghost told = { λ c. c };
 
     ghost spells = { count_of };
 
     fn read(text: &[u8]) -> Option<LayoutCount> {
         match number(text) {
-            Some(count) if 1 <= count && count <= 6 => Some(LayoutCount {
+            Some(count @ 1..=6) => Some(LayoutCount {
                 count: count as usize,
             }),
             _ => None,
@@ -199,13 +204,14 @@ impl Spelled for LayoutCount {
 impl Spelled for CardSet {
     ghost Told = { ℕ };
 
-    ghost told = { λ s. s.bits };
+    ghost told = { λ h. h };
 
     ghost spells = { hand_of };
 
     fn read(text: &[u8]) -> Option<CardSet> {
-        match cards(text) {
-            Some(hand) if 1 <= hand.len() && hand.len() <= 13 => Some(hand),
+        let hand = cards(text)?;
+        match hand.len() {
+            1..=13 => Some(hand),
             _ => None,
         }
     }

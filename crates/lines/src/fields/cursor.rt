@@ -1,25 +1,20 @@
 //! Going from field to field.
 
-ghost use Rattle.std.specs.Prelude.{◌≡◌, ℕ, ◌+◌, ◌<◌, ◌≤◌, [], ◌∷◌, length, IfSome, MatchOption, ◌≢◌, slice_index};
-ghost use Rattle.lines.specs.Fields.{here, start, next_spot};
+ghost use Rattle.std.specs.Prelude.{◌≡◌, ℕ, ◌<◌, ◌≤◌, length, ◌≢◌, slice_index};
+ghost use Rattle.lines.specs.Fields.{here, start, IsNext};
 
 use super::{Field, Fields};
 use crate::fault::Place;
 
-/// The place of the first comma from a place on, or the line's length.
-fn comma(line: &[u8], from: usize) -> usize
-    requires { from ≤ length line.now }
-    ensures low { from ≤ result }
-    ensures high { result ≤ length line.now }
-    ensures before { (k : ℕ) → from ≤ k → k < result → slice_index line.now k ≢ 44 }
-    ensures found { result < length line.now → slice_index line.now result ≡ 44 }
+/// How many bytes stand before the first comma, or all of them.
+fn before_comma(text: &[u8]) -> usize
+    ensures high { result ≤ length text.now }
+    ensures before { (k : ℕ) → k < result → slice_index text.now k ≢ 44 }
+    ensures found { result < length text.now → slice_index text.now result ≡ 44 }
 {
-    for i in from..line.len() {
-        if line[i] == b',' {
-            return i;
-        }
-    }
-    line.len()
+    text.iter()
+        .position(|byte| *byte == b',')
+        .unwrap_or(text.len())
 }
 
 impl<'a> Fields<'a> {
@@ -44,26 +39,25 @@ impl<'a> Fields<'a> {
             byte: self.at + 1,
         }
     }
+}
 
-    /// The next field, or none after the last.
-    pub fn next(&mut self) -> Option<Field<'a>>
-        ensures field { MatchOption result ((here self.old).rest ≡ [])
-            (λ f. (here self.old).rest ≡ f.text.now ∷ (here self.new).rest) }
-        ensures place { IfSome result (λ f. (f.number ≡ (here self.old).number) × (f.byte ≡ (here self.old).byte)) }
-        ensures goes { here self.new ≡ next_spot (here self.old) }
-    {
+/// The fields from the next one on.
+impl<'a> Iterator for Fields<'a> {
+    type Item = Field<'a>;
+
+    ghost next_gives = { IsNext };
+
+    fn next(&mut self) -> Option<Field<'a>> {
         if self.at > self.line.len() {
             return None;
         }
-        let line = self.line;
-        let start = self.at;
-        let end = comma(line, start);
+        let rest = &self.line[self.at..];
+        let length = before_comma(rest);
         let field = Field {
-            text: &line[start..end],
-            number: self.number,
-            byte: start + 1,
+            text: &rest[..length],
+            place: self.place(),
         };
-        self.at = end + 1;
+        self.at += length + 1;
         self.number += 1;
         Some(field)
     }

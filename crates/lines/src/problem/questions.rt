@@ -1,12 +1,11 @@
 //! What can be asked of a problem.
 
 ghost use Rattle.std.specs.Prelude.{◌≡◌, map, length};
-ghost use Rattle.std.specs.Option.{option_map};
 ghost use Rattle.lines.specs.Deals.{Valid, seat_hand, hand_in};
 ghost use Rattle.lines.specs.Problems.{defence, deal};
 ghost use Rattle.lines.specs.Seats.{seat_number};
 ghost use Rattle.lines.specs.Spelling.{size};
-ghost use Rattle.lines.specs.Told.{deal_of};
+ghost use Rattle.lines.specs.Told.{deal_of, goal_of, trump_suit_of, first_leader_of};
 
 use super::Problem;
 use crate::deal::{Goal, Layout, Parts, Seat};
@@ -31,21 +30,21 @@ impl Problem {
 
     /// What is asked.
     pub fn goal(&self) -> Goal
-        ensures { result ≡ self.now.parts.goal }
+        ensures { result ≡ goal_of self.now }
     {
         self.parts.goal
     }
 
     /// The trump suit, if there is one.
     pub fn trump(&self) -> Option<Suit>
-        ensures { result ≡ self.now.parts.trump }
+        ensures { result ≡ trump_suit_of self.now }
     {
         self.parts.trump
     }
 
     /// The seat that leads to the first trick.
     pub fn leader(&self) -> Seat
-        ensures { result ≡ self.now.parts.leader }
+        ensures { result ≡ first_leader_of self.now }
     {
         self.parts.leader
     }
@@ -62,12 +61,13 @@ impl Problem {
         ensures hands { map defence result.now ≡ (deal_of self.now).layouts }
         ensures len { length result.now ≡ length (deal_of self.now).layouts }
     {
-        &self.parts.layouts[0..self.parts.count]
+        let places = &self.parts.layouts[..];
+        &places[..self.parts.count]
     }
 
     /// The hand of a seat beside a layout.
     fn beside(&self, layout: Layout, seat: Seat) -> CardSet
-        ensures { result.bits ≡ seat_hand (deal_of self.now) (defence layout) (seat_number seat) }
+        ensures { result ≡ seat_hand (deal_of self.now) (defence layout) (seat_number seat) }
     {
         match seat {
             Seat::North => self.parts.hand0,
@@ -79,7 +79,7 @@ impl Problem {
 
     /// The hand of a seat in a layout, from 0; none past the last layout.
     pub fn hand(&self, layout: usize, seat: Seat) -> Option<CardSet>
-        ensures { option_map (λ h. h.bits) result ≡ hand_in (deal_of self.now) layout (seat_number seat) }
+        ensures { result ≡ hand_in (deal_of self.now) layout (seat_number seat) }
     {
         if layout >= self.parts.count {
             return None;

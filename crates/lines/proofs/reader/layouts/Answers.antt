@@ -1,51 +1,62 @@
-use Rattle.std.proofs.Common.{◌≡◌, ℕ, ◌<◌, [], map, length, take, Ok, Err, Option, Result, sym, refl, ap, ◌∙◌, arith, length-set, rules}
+use Rattle.std.proofs.Common.{◌≡◌, ℕ, ◌<◌, ◌≤◌, List, map, length, take, Ok, Err, Option, Result, sym, refl, ap, ◌∙◌, arith, length-set, rules}
 use native.Mathlib.Nat.{sub-zero}
+use Rattle.std.proofs.lemmas.List.{length-take-le, take-append-le}
 use Rattle.lines.specs.declared.fault.Fault.{Fault}
+use Rattle.lines.specs.declared.deal.Layout.{Layout}
 use Rattle.lines.specs.Deals.{Defence}
 use Rattle.lines.specs.Fields.{here}
 use Rattle.lines.specs.Problems.{defence}
-use Rattle.lines.specs.Reading.{layout_at, layouts_at}
-use Rattle.lines.proofs.Layouts.{read_one, read_fault, all_read, surplus}
+use Rattle.lines.specs.Reading.{first_cards, layout_at}
+use Rattle.lines.proofs.Layouts.{first_step, one_more, read_one, read_fault, all_read, surplus}
 use Rattle.lines.proofs.reader.layouts.Goals as goal
 
-pub loop-i-init : goal.loop-i-init
-loop-i-init c = (refl, rw sub-zero)
+pub loop-place-init : goal.loop-place-init
+loop-place-init c =
+    let n = length-take-le c.get.result _ c.get.ensures.few ∙ c.get.ensures.value in
+    record { places = n; last = n; known = refl; goes = rw sub-zero refl }
 
-pub slice_bounds-first_cards-end : goal.slice_bounds-first_cards-end
-slice_bounds-first_cards-end c = sym c.loop-i.invariant.0
-
-pub first_cards-first-requires : goal.first_cards-first-requires
-first_cards-first-requires c = let l = c.loop-i.invariant.0 in let f = c.args.count.few in omega arith
-
-pub returns-in_err-next : goal.returns-in_err-next
-returns-in_err-next c =
-    let s = here c.loop-i.fields in
-    let e : ◌≡◌ {A = Result Defence Fault} (Err c.in_err-next.field-0.0) (layout_at c.args.hand0.bits c.args.hand2.bits _ s) =
-    c.in_err-next.ensures.value ∙ ap (λ (o : Option ℕ). layout_at c.args.hand0.bits c.args.hand2.bits o s) c.first_cards-first.ensures in
-    let h = read_fault c.get-i-end.result c.args.hand0.bits c.args.hand2.bits c.loop-i.i c.loop-i.layouts s _ c.loop-i-test.true c.loop-i.invariant.1 c.in_err-next.field-0.0 e in
+pub returns-in_err-hand1 : goal.returns-in_err-hand1
+returns-in_err-hand1 c =
+    let s = here c.loop-place.fields in
+    let i = c.loop-place.invariant in
+    let left : c.loop-place.place-index < c.args.count = let t = c.loop-place-test.true in let e = i.last in omega arith in
+    let e : ◌≡◌ {A = Result Defence Fault} (Err c.in_err-hand1.field-0.0) (layout_at c.args.hand0 c.args.hand2 _ s) =
+    c.in_err-hand1.ensures.value ∙ ap (λ (o : Option ℕ). layout_at c.args.hand0 c.args.hand2 o s) i.known in
+    let h = read_fault c.args.count c.args.hand0 c.args.hand2 c.loop-place.place-index c.loop-place.place-items s _ left i.goes c.in_err-hand1.field-0.0 e in
     search rules
 
-pub loop-i-preserved : goal.loop-i-preserved
-loop-i-preserved c =
-    let s = here c.loop-i.fields in
-    let l : c.loop-i.i < length c.loop-i.layouts = let m = c.loop-i.invariant.0 in let f = c.args.count.few in omega arith in
-    let e : ◌≡◌ {A = Result Defence Fault} (Ok (defence c.in_ok-next.next)) (layout_at c.args.hand0.bits c.args.hand2.bits _ s) =
-    c.in_ok-next.ensures.value ∙ ap (λ (o : Option ℕ). layout_at c.args.hand0.bits c.args.hand2.bits o s) c.first_cards-first.ensures in (
-      length-set c.loop-i.layouts c.loop-i.i c.in_ok-next.next ∙ c.loop-i.invariant.0,
-      read_one c.get-i-end.result c.args.hand0.bits c.args.hand2.bits c.loop-i.i c.loop-i.layouts s _ c.loop-i-test.true c.loop-i.invariant.1
-          c.in_ok-next.next (here c.layout.new.fields) l e (c.in_ok-next.ensures.goes refl),
-    )
+pub loop-place-preserved : goal.loop-place-preserved
+loop-place-preserved c =
+    let s = here c.loop-place.fields in
+    let i = c.loop-place.invariant in
+    let x : Layout = record { hand1 = c.in_ok-hand1.field-0.hand1; hand3 = c.in_ok-hand1.field-0.hand3 } in
+    let left : c.loop-place.place-index < c.args.count = let t = c.loop-place-test.true in let e = i.last in omega arith in
+    let l : c.loop-place.place-index < length c.loop-place.place-items = let p = i.places in omega arith in
+    let e : ◌≡◌ {A = Result Defence Fault} (Ok (defence x)) (layout_at c.args.hand0 c.args.hand2 _ s) =
+    c.in_ok-hand1.ensures.value ∙ ap (λ (o : Option ℕ). layout_at c.args.hand0 c.args.hand2 o s) i.known in
+    record {
+      places = length-set c.loop-place.place-items c.loop-place.place-index x ∙ i.places;
+      last = i.last;
+      known = first_step (map defence (take c.loop-place.place-index c.loop-place.place-items)) (defence x) c.union.result c.loop-place.first c.or-first.result
+          i.known c.union.ensures.value c.or-first.ensures
+          ∙ ap first_cards (sym (one_more c.loop-place.place-items c.loop-place.place-index x l));
+      goes = read_one c.args.count c.args.hand0 c.args.hand2 c.loop-place.place-index c.loop-place.place-items s _ left i.goes
+          x (here c.layout.new.fields) l e (c.in_ok-hand1.ensures.goes refl);
+    }
 
 pub returns-in_err-end : goal.returns-in_err-end
 returns-in_err-end c =
-    let s = here c.loop-i.fields in
-    let d : c.loop-i.i ≡ c.get-i-end.result = omega arith in
-    let h = surplus c.get-i-end.result c.args.hand0.bits c.args.hand2.bits c.loop-i.i c.loop-i.layouts s _ d c.loop-i.invariant.1 c.in_err-end.field-0.0 c.in_err-end.ensures in
+    let s = here c.loop-place.fields in
+    let i = c.loop-place.invariant in
+    let d : c.loop-place.place-index ≡ c.args.count = let t = c.loop-place-test.false in let a = c.loop-place.auto.place-index-end in let e = i.last in omega arith in
+    let h = surplus c.args.count c.args.hand0 c.args.hand2 c.loop-place.place-index c.loop-place.place-items s _ d i.goes c.in_err-end.field-0.0 c.in_err-end.ensures in
     search rules
 
 pub returns : goal.returns
 returns c =
-    let s = here c.loop-i.fields in
-    let d : c.loop-i.i ≡ c.get-i-end.result = omega arith in
-    let h = all_read c.get-i-end.result c.args.hand0.bits c.args.hand2.bits c.loop-i.i c.loop-i.layouts s _ d c.loop-i.invariant.1 c.in_ok-end.ensures in
-    ap (λ (n : ℕ). Ok (map defence (take n c.loop-i.layouts))) (sym c.get-i-end.ensures) ∙ h ∙ ap (λ (n : ℕ). layouts_at n c.args.hand0.bits c.args.hand2.bits [] (here c.args.fields.now)) c.get-i-end.ensures
+    let s = here c.loop-place.fields in
+    let i = c.loop-place.invariant in
+    let d : c.loop-place.place-index ≡ c.args.count = let t = c.loop-place-test.false in let a = c.loop-place.auto.place-index-end in let e = i.last in omega arith in
+    let l : c.args.count ≤ length c.loop-place.place-items = let p = i.places in omega arith in
+    ap (λ (xs : List Layout). Ok (map defence xs)) (take-append-le c.args.count c.loop-place.place-items _ l)
+    ∙ all_read c.args.count c.args.hand0 c.args.hand2 c.loop-place.place-index c.loop-place.place-items s _ d i.goes c.in_ok-end.ensures

@@ -1,16 +1,19 @@
-use Rattle.std.proofs.Common.{ℕ, ◌^◌, Some, sym, ap, ◌∙◌, rules}
-use lib.Bits.{bit_or}
+use Rattle.std.proofs.Common.{sym, ◌∙◌, rules}
 use Rattle.cards.specs.Codes.{card_code}
 use Rattle.cards.proofs.Sets.{with_value}
 use Rattle.lines.specs.Spelling.{cards_of}
-use Rattle.lines.proofs.Spelled.{more}
+use Rattle.lines.proofs.Spelled.{low_after, out_of_order, more, ends}
 use Rattle.lines.proofs.spelling.cards.Goals as goal
+
+pub returns-then-le : goal.returns-then-le
+returns-then-le c =
+    let last = c.loop-rest.last in let card = c.in_ok-card.card in
+    ends (low_after last) c.loop-rest.cards (cards_of c.args.text.now) (card_code card) c.loop-rest.rest.now (search rules) c.loop-rest.invariant
+    (sym c.in_ok-card.ensures) (sym (out_of_order card last) ∙ sym c.le.ensures ∙ c.if-le.true)
 
 pub loop-rest-preserved : goal.loop-rest-preserved
 loop-rest-preserved c =
-    let code = c.code-code.ensures.value in (
-      c.with-cards.result.cards,
-      more c.loop-rest.low c.loop-rest.cards.0 c.with-cards.result.bits c.loop-rest.rest.now (cards_of c.args.text.now) c.code-code.result
-          (search rules) c.loop-rest.invariant.1 (sym c.in_ok-card.ensures ∙ ap Some (sym code)) c.if-code-low.false
-          (with_value c.loop-rest.cards.0 c.with-cards.result.bits (card_code c.in_ok-card.card) c.with-cards.ensures ∙ ap (λ (n : ℕ). bit_or c.loop-rest.cards.0 (2 ^ n)) (sym code)),
-    )
+    let last = c.loop-rest.last in let card = c.in_ok-card.card in
+    more (low_after last) c.loop-rest.cards (cards_of c.args.text.now) (card_code card) c.with-cards.result c.loop-rest.rest.now (search rules) c.loop-rest.invariant
+    (sym c.in_ok-card.ensures) (sym (out_of_order card last) ∙ sym c.le.ensures ∙ c.if-le.false)
+    (with_value c.loop-rest.cards c.with-cards.result (card_code card) c.with-cards.ensures.members)

@@ -1,5 +1,5 @@
 use Rattle.std.proofs.Common.{rules}
-use lib.ListN.{length-map}
+use Rattle.std.proofs.lemmas.List.{length-map}
 use Rattle.lines.proofs.problem.Problem.layouts.Goals as goal
 
 pub returns : goal.returns
