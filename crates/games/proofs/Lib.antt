@@ -2,3 +2,4 @@ pub mod Ends
 pub mod Falls
 pub mod Sizes
 pub mod Values
+pub mod TakenIn

@@ -1,5 +1,6 @@
 -- Counting in the children of a turn one by one, from the last to the first, gives the size of its tree.
 use Rattle.std.proofs.Common.{◌≡◌, ℕ, zero, suc, ◌+◌, ◌-◌, ◌<◌, Some, refl, ap, ◌∙◌, arith}
+use Rattle.std.proofs.lemmas.Option.{none-some}
 use Rattle.games.specs.declared.side.Side.{Side}
 use Rattle.games.specs.Trees.{Tree, over, turn, Forest, none, also, side_of, children_of, count, place_or, child, size, sizes, Line}
 use Rattle.games.specs.Evaluations.{capped}
@@ -53,7 +54,7 @@ counted_summed ts (suc n) p =
 -- the children of a turn, all counted in, give its size
 pub counted_size : {S : Type 0} (t : Tree S) (d : Side) → side_of t ≡ Some d
     → counted (child t) (count (children_of t)) 1 ≡ capped (size t)
-counted_size (over k h s) d e = let z : ◌≡◌ {A = ℕ} 0 1 = cc in absurd (omega arith)
+counted_size (over k h s) d e = absurd (none-some d e)
 counted_size (turn k h d ts) d' e =
     counted_summed (place_or (turn k h d ts) ts) (count ts) 1
     ∙ ap capped (omega (arith, summed_sizes (turn k h d ts) ts))

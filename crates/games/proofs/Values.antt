@@ -1,5 +1,6 @@
 -- Taking in the children of a turn one by one, from the last to the first, gives its plain value.
 use Rattle.std.proofs.Common.{◌≡◌, ℕ, zero, suc, ◌-◌, ◌<◌, Some, refl, ap, ◌∙◌, arith}
+use Rattle.std.proofs.lemmas.Option.{none-some}
 use Rattle.lattice.specs.Scores.{Scoring}
 use Rattle.games.specs.declared.side.Side.{Side}
 use Rattle.games.specs.declared.side.Side.TheVariants.{Max, Min}
@@ -49,7 +50,7 @@ module _ {S C : Type 0} (o : Scoring C) (stands : S → C) (x : Tree S) where
 -- the children of a turn, all taken in, give its plain value
 pub drawn_plain : {S C : Type 0} (o : Scoring C) (stands : S → C) (t : Tree S) (d : Side) → side_of t ≡ Some d
     → drawn o stands d (child t) (count (children_of t)) (at_first o d) ≡ plain o stands t
-drawn_plain o stands (over k h s) d e = let z : ◌≡◌ {A = ℕ} 0 1 = cc in absurd (omega arith)
+drawn_plain o stands (over k h s) d e = absurd (none-some d e)
 drawn_plain o stands (turn k h Max ts) Max e = drawn_joined o stands (turn k h Max ts) ts
 drawn_plain o stands (turn k h Min ts) Min e = drawn_met o stands (turn k h Min ts) ts
 drawn_plain o stands (turn k h Max ts) Min e = let z : ◌≡◌ {A = ℕ} 0 1 = cc in absurd (omega arith)

@@ -32,10 +32,7 @@ impl<S: Lattice> Evaluation<S> {
         ensures value { S.Lattice.stands result.value ≡ at_first S.Lattice.scoring side }
         ensures positions { result.positions ≡ 1 }
     {
-        match side {
-            Side::Max => Evaluation::single(S::bottom()),
-            Side::Min => Evaluation::single(S::top()),
-        }
+        Evaluation::single(side.start())
     }
 
     /// The same turn of this side with one more child.
@@ -43,12 +40,8 @@ impl<S: Lattice> Evaluation<S> {
         ensures value { S.Lattice.stands result.value ≡ chosen S.Lattice.scoring side (S.Lattice.stands child.value) (S.Lattice.stands self.value) }
         ensures positions { result.positions ≡ capped (self.positions + child.positions) }
     {
-        let value = match side {
-            Side::Max => child.value.join(self.value),
-            Side::Min => child.value.meet(self.value),
-        };
         Evaluation {
-            value,
+            value: side.better(child.value, self.value),
             positions: self.positions.saturating_add(child.positions),
         }
     }
@@ -56,6 +49,7 @@ impl<S: Lattice> Evaluation<S> {
 
 /// Plays every line from the present position, and leaves the game as it was.
 #[cycle(evaluate_evaluate_child)]
+#[tactic(auto, using(crate::proofs::TakenIn::taken_in))]
 pub fn evaluate<G: Game>(game: &mut G) -> Evaluation<G::Score>
     ensures value { G.Score.Lattice.stands result.value ≡ plain G.Score.Lattice.scoring G.Score.Lattice.stands (G.Game.line game.old).present }
     ensures positions { result.positions ≡ capped (size (G.Game.line game.old).present) }
@@ -77,6 +71,7 @@ pub fn evaluate<G: Game>(game: &mut G) -> Evaluation<G::Score>
 
 /// The same from the child at a place.
 #[cycle(evaluate_evaluate_child)]
+#[tactic(auto, using(crate::proofs::Falls::lower))]
 fn evaluate_child<G: Game>(game: &mut G, place: u32) -> Evaluation<G::Score>
     requires { place < count (children_of (G.Game.line game.old).present) }
     ensures value { G.Score.Lattice.stands result.value ≡ plain G.Score.Lattice.scoring G.Score.Lattice.stands (child (G.Game.line game.old).present place) }

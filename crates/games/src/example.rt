@@ -6,7 +6,7 @@ ghost use Rattle.games.specs.ExampleLaw.{example_lawful};
 use crate::{Game, Key, Side};
 use lattice::tricks::Tricks;
 
-/// Max takes three, or leaves it to Min to give five or two.
+/// Max takes three, or leaves it to Min to give five or two. A position's number in this order is its key.
 #[derive(Clone, Copy)]
 pub enum Example {
     Start,
@@ -48,14 +48,10 @@ impl Game for Example {
     }
 
     fn key(&self) -> Key {
-        let first = match self {
-            Example::Start => 0,
-            Example::Three => 1,
-            Example::Left => 2,
-            Example::Five => 3,
-            Example::Two => 4,
-        };
-        Key { first, second: 0 }
+        Key {
+            first: *self as u64,
+            second: 0,
+        }
     }
 
     fn height(&self) -> u32 {

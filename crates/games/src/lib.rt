@@ -43,6 +43,7 @@ pub trait Game: Sized {
         ensures { result ≡ height_of (line self.now).present };
 
     /// Goes to the child at a place; false, and nothing changes, where there is none.
+    // Stays a bool, here and below, as of a set's `insert`: there is one way to refuse, so it is the whole answer.
     fn play(&mut self, place: u32) -> bool
         ensures told { result ≡ can_play (line self.old) place }
         ensures goes { line self.new ≡ after_play (line self.old) place };
@@ -57,10 +58,11 @@ pub trait Game: Sized {
 
 #[cfg(test)]
 mod tests {
-    use super::Game;
     use super::evaluate::evaluate;
     use super::example::Example;
+    use super::{Game, Side};
     use lattice::Lattice;
+    use lattice::tricks::Tricks;
 
     #[test]
     fn evaluates_the_example(rt: HostRuntime) {
@@ -72,5 +74,15 @@ mod tests {
         let left = evaluate(&mut game);
         assert_eq!(rt; left.value.code(), 2);
         assert_eq!(rt; left.positions, 3);
+    }
+
+    #[test]
+    fn chooses_by_side(rt: HostRuntime) {
+        let lowest: Tricks = Side::Max.start();
+        let highest: Tricks = Side::Min.start();
+        assert_eq!(rt; lowest.code(), 0);
+        assert_eq!(rt; highest.code(), 13);
+        assert_eq!(rt; Side::Max.better(Tricks(4), Tricks(9)).code(), 9);
+        assert_eq!(rt; Side::Min.better(Tricks(4), Tricks(9)).code(), 4);
     }
 }

@@ -1,6 +1,6 @@
 -- The parts of a set as the code computes them, one layout after the other by a shift.
-use Rattle.std.proofs.Common.{◌≡◌, ℕ, ◌+◌, ◌*◌, ◌%◌, ◌^◌, ◌<◌, ◌≤◌, Bool, true, false, cond, ◌↔◌, sym, refl, ap, ◌∙◌, add-one, arith, pow_mono}
-use lib.Bits.{bit_or}
+use Rattle.std.proofs.Common.{◌≡◌, ℕ, ◌+◌, ◌*◌, ◌%◌, ◌^◌, ◌<◌, ◌≤◌, Bool, true, false, cond, ◌↔◌, sym, ap, ◌∙◌, add-one, arith, pow_mono}
+use Rattle.std.specs.Prelude.{bit_or}
 use Rattle.std.proofs.lemmas.Nat.{shl_whole, one_shl}
 use Rattle.bitsets.specs.Sets.{has, Part}
 use Rattle.bitsets.proofs.Digits.{below_pow, part_le}
@@ -10,11 +10,6 @@ use Rattle.bitsets.proofs.FamilyParts.{parts_of_below}
 use Rattle.lattice.specs.FamilyScores.{FamilyScore, family_scoring, parts_of, family_of}
 use Rattle.lattice.proofs.Codes.{code_stands}
 use Rattle.lattice.specs.FamilyLaws.{family_laws}
-
--- of no layout there is just the empty set
-pub parts_none : (x : ℕ) → 1 ≡ parts_below x 0
-unfolding parts_below
-parts_none x = refl
 
 -- the shift that adds the layout k is by 2 ^ k, at most 32
 pub layout_shift : (k : ℕ) → k < 6 → ((1 * 2 ^ k) % 2 ^ 8 ≡ 2 ^ k) × (2 ^ k ≤ 32)

@@ -1,8 +1,8 @@
 -- The test for a family as the code computes it.
-use Rattle.std.proofs.Common.{◌≡◌, ℕ, zero, suc, ◌-◌, ◌^◌, ◌<◌, true, not, eqb, ◌↔◌, sym, ap, ◌∙◌, subst, arith, lit<}
-use lib.Bits.{bit_and, and_mask, and_le_l, or_lt}
+use Rattle.std.proofs.Common.{◌≡◌, ℕ, zero, suc, ◌+◌, ◌*◌, ◌/◌, ◌%◌, List, [], ◌∷◌, get_or, ◌-◌, ◌^◌, ◌<◌, true, not, eqb, ◌↔◌, sym, ap, ◌∙◌, subst, arith, lit<}
+use Rattle.std.specs.Prelude.{bit_and, bit_or}
 use Rattle.std.proofs.lemmas.Bool.{both_ways, not-false, eqb-true, eq-eqb}
-use Rattle.std.proofs.lemmas.Nat.{shr_le}
+use Rattle.std.proofs.lemmas.Nat.{and_mask, and_le_l, or_lt, shr_le}
 use Rattle.bitsets.specs.Sets.{has, Part}
 use Rattle.bitsets.proofs.Digits.{has_first, has_below, has_without, apart, apart_out}
 use Rattle.bitsets.specs.Families.{IsFamily, sets_with, without, without_one}
@@ -40,3 +40,20 @@ masks_test n small e u is =
       λ t. family_by_parts n small (sym (empty_test n) ∙ eq-eqb (bit_and n 1) 1 e) (subst (λ (x : ℕ). Part x n) is ((left_over u n small low).0 t)),
       λ f. (left_over u n small low).1 (subst (λ (x : ℕ). Part x n) (sym is) (parts_by_family n small f)),
     )
+
+-- the masks as the code lists them, layout 1's first
+abbrev pub masks : List ℕ
+masks =
+    0xaaaa_aaaa_aaaa_aaaa ∷ 0xcccc_cccc_cccc_cccc ∷ 0xf0f0_f0f0_f0f0_f0f0 ∷ 0xff00_ff00_ff00_ff00
+    ∷ 0xffff_0000_ffff_0000 ∷ 0xffff_ffff_0000_0000 ∷ []
+
+-- what is found with one layout more, where u is what is found so far
+pub one_more_less : (n k u : ℕ) → k < 6 → u ≡ without_one n k
+    → bit_or u (bit_and n (get_or masks k 0) / 2 ^ ((1 * 2 ^ k) % 2 ^ 8)) ≡ without_one n (k + 1)
+one_more_less n zero u l e = ap (λ (x : ℕ). bit_or x (without n 0)) e
+one_more_less n (suc zero) u l e = ap (λ (x : ℕ). bit_or x (without n 1)) e
+one_more_less n (suc (suc zero)) u l e = ap (λ (x : ℕ). bit_or x (without n 2)) e
+one_more_less n (suc (suc (suc zero))) u l e = ap (λ (x : ℕ). bit_or x (without n 3)) e
+one_more_less n (suc (suc (suc (suc zero)))) u l e = ap (λ (x : ℕ). bit_or x (without n 4)) e
+one_more_less n (suc (suc (suc (suc (suc zero))))) u l e = ap (λ (x : ℕ). bit_or x (without n 5)) e
+one_more_less n (suc (suc (suc (suc (suc (suc k)))))) u l e = absurd (omega arith)

@@ -2,4 +2,3 @@ pub mod Order
 pub mod Codes
 pub mod FamilyMasks
 pub mod FamilyDoubling
-pub mod Gathered

@@ -1,11 +1,12 @@
 -- Families keep the laws of scores.
 use Rattle.std.specs.Prelude.{◌≡◌, ℕ, true, ◌⊎◌, Some, Option, bit_or, refl}
-use Rattle.std.proofs.Common.{sym, ap, ◌∙◌, subst, inl, inr, arith}
+use Rattle.std.proofs.Common.{sym, ap, ◌∙◌, subst, inl, inr}
 use mathlib.Core.HLevel.{Π_prop, →_prop, is_prop→PathP}
 use Rattle.std.proofs.Math.Bool.{Bool-set}
 use Rattle.std.proofs.Math.Bridge.{le_prop}
 use Rattle.std.proofs.lemmas.Nat.{and_comm, or_comm}
 use Rattle.std.proofs.lemmas.Bool.{eqb-true, eq-eqb}
+use Rattle.std.proofs.lemmas.Option.{none-some}
 use Rattle.bitsets.specs.Sets.{has, Part}
 use Rattle.bitsets.proofs.Digits.{has_pow, part_both, or_has, or_has_r, and_assoc, or_assoc, or_absorbs, and_absorbs, and_or_distributes, and_all}
 use Rattle.lattice.specs.Scores.{Laws}
@@ -34,7 +35,7 @@ told_some n (inr none) a q = absurd (none (subst IsFamily q a.is))
 some_told : (n : ℕ) (c : IsFamily n ⊎ (IsFamily n → ⊥)) (a : FamilyScore) → told_family n c ≡ Some a → a.number ≡ n
 some_told n (inl is) a q =
     let r : record { number = n; is = is } ≡ a = cc in sym (ap (λ (x : FamilyScore). x.number) r)
-some_told n (inr none) a q = let z : ◌≡◌ {A = ℕ} 0 1 = cc in absurd (omega arith)
+some_told n (inr none) a q = absurd (none-some a q)
 
 one_below : (a : FamilyScore) → bit_or 1 a.number ≡ a.number
 one_below a =

@@ -5,6 +5,7 @@ use mathlib.Core.HLevel.{is_prop→PathP}
 use Rattle.std.proofs.Math.Bridge.{le_prop}
 use Rattle.std.proofs.Math.Nat.{max_comm, min_comm, max-eq_right}
 use Rattle.std.proofs.lemmas.Bool.{cases_lt, leb-true, le-leb}
+use Rattle.std.proofs.lemmas.Option.{none-some}
 use Rattle.lattice.specs.Scores.{Laws}
 use Rattle.lattice.specs.TrickScores.{TrickScore, told_tricks, trick_scoring}
 
@@ -17,7 +18,7 @@ told_some n (inl many) a q = let l = a.few in absurd (omega arith)
 told_some n (inr few) a q = ap {B = Option TrickScore} Some (trick_path {a = record { number = n; few = few }} (sym q))
 
 some_told : (n : ℕ) (c : (13 < n) ⊎ (n ≤ 13)) (a : TrickScore) → told_tricks n c ≡ Some a → a.number ≡ n
-some_told n (inl many) a q = let z : ◌≡◌ {A = ℕ} 0 1 = cc in absurd (omega arith)
+some_told n (inl many) a q = absurd (none-some a q)
 some_told n (inr few) a q =
     let r : record { number = n; few = few } ≡ a = cc in sym (ap (λ (x : TrickScore). x.number) r)
 

@@ -7,6 +7,14 @@ use Rattle.lattice.specs.Scores.{Scoring}
 abbrev pub scored : {A C : Type 0} → (A → C) → Bracket A → Bracket C
 scored f b = record { lo = f b.lo; hi = f b.hi }
 
+-- the bracket of one score
+abbrev pub point : {C : Type 0} → C → Bracket C
+point v = record { lo = v; hi = v }
+
+-- the bracket of all scores: as a window it shows every score as it is
+abbrev pub whole : {C : Type 0} → Scoring C → Bracket C
+whole o = record { lo = o.bottom; hi = o.top }
+
 -- two scores as a bracket, if both are there
 abbrev pub paired : {C : Type 0} → Option C → Option C → Option (Bracket C)
 paired None h = None

@@ -2,7 +2,7 @@
 
 ghost use Rattle.std.specs.Prelude.{◌≡◌};
 ghost use Rattle.lattice.specs.Scores.{standing};
-ghost use Rattle.lattice.specs.Windows.{scored, clamped, same, Decision, read_decided};
+ghost use Rattle.lattice.specs.Windows.{scored, point, whole, clamped, same, Decision, read_decided};
 
 use crate::Lattice;
 
@@ -14,6 +14,7 @@ pub struct Bracket<S: Lattice> {
 }
 
 /// Whether two values stand for the same score.
+// Stays a test by the order: values that differ may stand for one score, so a derived equality of values is not that of scores.
 fn equal<S: Lattice>(a: S, b: S) -> bool
     ensures { result ≡ same S.Lattice.scoring (S.Lattice.stands a) (S.Lattice.stands b) }
 {
@@ -21,6 +22,26 @@ fn equal<S: Lattice>(a: S, b: S) -> bool
 }
 
 impl<S: Lattice> Bracket<S> {
+    /// The bracket of one score.
+    pub fn point(score: S) -> Bracket<S>
+        ensures { result ≡ point score }
+    {
+        Bracket {
+            lo: score,
+            hi: score,
+        }
+    }
+
+    /// The bracket of all scores: as a window it shows every value as it is.
+    pub fn whole() -> Bracket<S>
+        ensures { scored S.Lattice.stands result ≡ whole S.Lattice.scoring }
+    {
+        Bracket {
+            lo: S::bottom(),
+            hi: S::top(),
+        }
+    }
+
     /// The clamp of a score in this window.
     pub fn clamp(self, score: S) -> S
         ensures { S.Lattice.stands result ≡ clamped S.Lattice.scoring (scored S.Lattice.stands self) (S.Lattice.stands score) }
@@ -44,10 +65,6 @@ impl<S: Lattice> Bracket<S> {
             lo: S::read(lo)?,
             hi: S::read(hi)?,
         };
-        if bracket.decides(window) {
-            Some(bracket)
-        } else {
-            None
-        }
+        bracket.decides(window).then_some(bracket)
     }
 }

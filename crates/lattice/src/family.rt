@@ -11,36 +11,34 @@ ghost use Rattle.lattice.specs.FamilyLaws.{family_laws};
 use crate::Lattice;
 use bitsets::BitSet;
 
-/// The sets that have layout 1; and so on for the others.
-const WITH_1: u64 = 0xaaaa_aaaa_aaaa_aaaa;
-
-const WITH_2: u64 = 0xcccc_cccc_cccc_cccc;
-
-const WITH_3: u64 = 0xf0f0_f0f0_f0f0_f0f0;
-
-const WITH_4: u64 = 0xff00_ff00_ff00_ff00;
-
-const WITH_5: u64 = 0xffff_0000_ffff_0000;
-
-const WITH_6: u64 = 0xffff_ffff_0000_0000;
+/// The sets that have each layout, layout 1 first.
+const WITH: [u64; 6] = [
+    0xaaaa_aaaa_aaaa_aaaa,
+    0xcccc_cccc_cccc_cccc,
+    0xf0f0_f0f0_f0f0_f0f0,
+    0xff00_ff00_ff00_ff00,
+    0xffff_0000_ffff_0000,
+    0xffff_ffff_0000_0000,
+];
 
 /// The family of just the empty set.
 const EMPTY: u64 = 1;
 
 /// The sets of a family, each without one of its layouts.
+#[tactic(auto, using(crate::proofs::FamilyMasks::one_more_less, crate::proofs::FamilyDoubling::layout_shift))]
 fn lessened(sets: u64) -> u64
     ensures { result ≡ without_one sets 6 }
 {
-    (sets & WITH_1) >> 1
-        | (sets & WITH_2) >> 2
-        | (sets & WITH_3) >> 4
-        | (sets & WITH_4) >> 8
-        | (sets & WITH_5) >> 16
-        | (sets & WITH_6) >> 32
+    let mut less = 0;
+    for (layout, with) in WITH.iter().enumerate() {
+        less |= (sets & *with) >> (1u8 << layout);
+    }
+    less
 }
 
 /// The parts of a set whose layouts are among those up to this one, from those whose layouts are below it:
 /// if the set has the layout, each of them with it is one more.
+#[tactic(auto, using(crate::proofs::FamilyDoubling::parts_with, crate::proofs::FamilyDoubling::parts_without, crate::proofs::FamilyDoubling::layout_shift))]
 fn grown(parts: u64, set: u8, layout: u8) -> u64
     requires { (layout < 6) × (parts ≡ parts_below set layout) }
     ensures { result ≡ parts_below set (layout + 1) }
@@ -80,6 +78,7 @@ impl Family {
     }
 
     /// Whether the number is a family. It has to have the empty set, and each of its sets without any one layout.
+    #[tactic(auto, using(crate::proofs::FamilyMasks::masks_test, crate::proofs::FamilyMasks::empty_test))]
     pub fn is_family(self) -> bool
         ensures { (result ≡ true) ↔ IsFamily self.0 }
     {
@@ -94,6 +93,7 @@ impl Family {
     }
 
     /// The family of all parts of a set of layouts, or none if the number is no set: the codes of sets are below 64.
+    #[tactic(auto, unfolding(bitsets::specs::Families::parts_below))]
     pub fn subsets(set: u8) -> Option<Family>
         ensures score { standing family_of result ≡ subsets_of set }
         ensures parts { AllParts set result }
@@ -116,31 +116,7 @@ impl Lattice for Family {
 
     ghost stands = { family_of };
 
-    ghost join_commutes = { family_laws.join_commutes };
-
-    ghost join_associates = { family_laws.join_associates };
-
-    ghost meet_commutes = { family_laws.meet_commutes };
-
-    ghost meet_associates = { family_laws.meet_associates };
-
-    ghost join_absorbs = { family_laws.join_absorbs };
-
-    ghost meet_absorbs = { family_laws.meet_absorbs };
-
-    ghost distributes = { family_laws.distributes };
-
-    ghost bottom_neutral = { family_laws.bottom_neutral };
-
-    ghost top_neutral = { family_laws.top_neutral };
-
-    ghost orders = { family_laws.orders };
-
-    ghost fits = { family_laws.fits };
-
-    ghost reads = { family_laws.reads };
-
-    ghost exact = { family_laws.exact };
+    ghost laws = { family_laws };
 
     fn bottom() -> Family {
         Family::of(EMPTY)
@@ -169,6 +145,7 @@ impl Lattice for Family {
 
     fn read(code: u64) -> Option<Family> {
         let family = Family(code);
+        // Stays a branch: with `then_some` the proof does not split on the test, and does not close.
         if family.is_family() {
             Some(family)
         } else {

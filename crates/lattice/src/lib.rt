@@ -3,7 +3,7 @@
 #![tactic(auto)]
 
 ghost use Rattle.std.specs.Prelude.{◌≡◌};
-ghost use Rattle.lattice.specs.Scores.{Scoring, Commutes, Associates, Absorbs, Distributes, Neutral, Orders, Fits, Reads, Exact, standing};
+ghost use Rattle.lattice.specs.Scores.{Scoring, Laws, standing};
 
 pub mod bracket;
 pub mod family;
@@ -12,12 +12,14 @@ pub mod tricks;
 /// A type of scores. A value may come out of memory that others wrote, so each value stands for a score,
 /// and every operation is right for every value.
 pub trait Lattice: Sized + Copy {
-    // The scores, their operations, and the score that a value stands for.
+    // The scores, their operations, the score that a value stands for, and the laws that the operations keep.
     ghost Score: { Type 0 };
 
     ghost scoring: { Scoring Score };
 
     ghost stands: { Self → Score };
+
+    ghost laws: { Laws scoring };
 
     /// The least score.
     fn bottom() -> Self
@@ -45,32 +47,6 @@ pub trait Lattice: Sized + Copy {
     /// The score with this code, or none if the number is no score's code.
     fn read(code: u64) -> Option<Self>
         ensures { standing stands result ≡ scoring.decode code };
-
-    ghost join_commutes: { Commutes scoring.join };
-
-    ghost join_associates: { Associates scoring.join };
-
-    ghost meet_commutes: { Commutes scoring.meet };
-
-    ghost meet_associates: { Associates scoring.meet };
-
-    ghost join_absorbs: { Absorbs scoring.join scoring.meet };
-
-    ghost meet_absorbs: { Absorbs scoring.meet scoring.join };
-
-    ghost distributes: { Distributes scoring.meet scoring.join };
-
-    ghost bottom_neutral: { Neutral scoring.bottom scoring.join };
-
-    ghost top_neutral: { Neutral scoring.top scoring.meet };
-
-    ghost orders: { Orders scoring.below scoring.join };
-
-    ghost fits: { Fits scoring.code };
-
-    ghost reads: { Reads scoring.code scoring.decode };
-
-    ghost exact: { Exact scoring.code scoring.decode };
 }
 
 #[cfg(test)]
@@ -107,5 +83,15 @@ mod tests {
         };
         assert!(rt; bracket.decides(window));
         assert!(rt; !window.decides(window));
+    }
+
+    #[test]
+    fn makes_brackets(rt: HostRuntime) {
+        let point = Bracket::point(Tricks(4));
+        assert_eq!(rt; point.lo.code(), 4);
+        assert_eq!(rt; point.hi.code(), 4);
+        let whole: Bracket<Tricks> = Bracket::whole();
+        assert_eq!(rt; whole.lo.code(), 0);
+        assert_eq!(rt; whole.hi.code(), 13);
     }
 }

@@ -14,6 +14,7 @@ pub struct Tricks(pub u8);
 
 impl Tricks {
     /// The value that stands for the score with this number.
+    #[tactic(auto, using(crate::proofs::Codes::code_stands, crate::specs::TrickLaws::trick_laws))]
     fn of(number: u8) -> Tricks
         ensures { (a : TrickScore) → number ≡ a.number → tricks_of result ≡ a }
     {
@@ -35,31 +36,7 @@ impl Lattice for Tricks {
 
     ghost stands = { tricks_of };
 
-    ghost join_commutes = { trick_laws.join_commutes };
-
-    ghost join_associates = { trick_laws.join_associates };
-
-    ghost meet_commutes = { trick_laws.meet_commutes };
-
-    ghost meet_associates = { trick_laws.meet_associates };
-
-    ghost join_absorbs = { trick_laws.join_absorbs };
-
-    ghost meet_absorbs = { trick_laws.meet_absorbs };
-
-    ghost distributes = { trick_laws.distributes };
-
-    ghost bottom_neutral = { trick_laws.bottom_neutral };
-
-    ghost top_neutral = { trick_laws.top_neutral };
-
-    ghost orders = { trick_laws.orders };
-
-    ghost fits = { trick_laws.fits };
-
-    ghost reads = { trick_laws.reads };
-
-    ghost exact = { trick_laws.exact };
+    ghost laws = { trick_laws };
 
     fn bottom() -> Tricks {
         Tricks::of(0)
@@ -86,10 +63,7 @@ impl Lattice for Tricks {
     }
 
     fn read(code: u64) -> Option<Tricks> {
-        if code <= MOST as u64 {
-            Some(Tricks(code as u8))
-        } else {
-            None
-        }
+        let number = u8::try_from(code).ok()?;
+        (number <= MOST).then_some(Tricks(number))
     }
 }

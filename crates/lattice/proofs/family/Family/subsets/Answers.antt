@@ -1,11 +1,8 @@
 use Rattle.std.proofs.Common.{◌≡◌, Some, None, Option, ap, ◌∙◌, arith}
 use Rattle.std.proofs.lemmas.Bool.{cond_below}
 use Rattle.lattice.specs.FamilyScores.{FamilyScore, parts_of}
-use Rattle.lattice.proofs.FamilyDoubling.{parts_none, parts_score, parts_words}
+use Rattle.lattice.proofs.FamilyDoubling.{parts_score, parts_words}
 use Rattle.lattice.proofs.family.Family.subsets.Goals as goal
-
-pub loop-layout-init : goal.loop-layout-init
-loop-layout-init c = parts_none c.args.set
 
 pub returns : goal.returns
 returns c =
