@@ -1,28 +1,25 @@
 -- Which of two cards is the better one.
-use Rattle.std.proofs.Common.{◌≡◌, ℕ, ◌<◌, eqb, ltb, List, Some, None, Option, sym, ap, ◌∙◌, arith, lit<}
+use Rattle.std.proofs.Common.{◌≡◌, ℕ, ◌<◌, ltb, Bool, true, false, List, Some, None, Option, sym, ◌∙◌, arith, rules}
+use Rattle.std.proofs.lemmas.Bool.{eqb-true}
 use Rattle.std.proofs.lemmas.Bool.Decides.{nat_tests}
+use Rattle.std.specs.Option.{option_map, option_eq}
+use Rattle.std.specs.Ordering.{partial_gt}
+use denote.Enum.Bare.{sameb}
+use Rattle.cards.specs.contracts.card.Suit.{the_type as suit_type}
+use Rattle.cards.specs.contracts.card.SuitPartialEq.TheImpl.{eq-value as suit_eq}
+use Rattle.cards.specs.contracts.card.RankPartialOrd.TheImpl.{partial_cmp-value as rank_cmp}
 use Rattle.cards.specs.declared.card.Card.{Card}
 use Rattle.cards.specs.declared.card.Rank.{Rank}
-use Rattle.cards.specs.declared.card.Rank.TheVariants.{Two, Three, Four, Five, Six, Seven, Eight, Nine, Ten, Jack, Queen, King, Ace}
+use Rattle.cards.specs.declared.card.Suit.{Suit}
 use Rattle.cards.specs.Codes.{suit_code, rank_code, card_code}
+use Rattle.cards.proofs.Order.{rank_above, suit_same}
 use Rattle.lines.specs.declared.problem.Problem.{Problem}
+use Rattle.lines.specs.Told.{trump_suit_of}
 use Rattle.cardplay.specs.Cards.{Layout, Dealt, suit, rank, beats}
 use Rattle.deals.specs.Dealing.{dealt_of}
 
 rank_small : (r : Rank) → rank_code r < 13
-rank_small Two = lit< tt
-rank_small Three = lit< tt
-rank_small Four = lit< tt
-rank_small Five = lit< tt
-rank_small Six = lit< tt
-rank_small Seven = lit< tt
-rank_small Eight = lit< tt
-rank_small Nine = lit< tt
-rank_small Ten = lit< tt
-rank_small Jack = lit< tt
-rank_small Queen = lit< tt
-rank_small King = lit< tt
-rank_small Ace = lit< tt
+rank_small r = search rules
 
 -- a card's code tells its suit and its rank
 pub code_suit : (c : Card) → suit (card_code c) ≡ suit_code c.suit
@@ -41,24 +38,25 @@ module _ (ls : List Layout) (n : ℕ) (a b : Card) where
   by_rank None e = simp (code_suit, code_rank) (grind (arith, nat_tests))
   by_rank (Some t) e = simp (code_suit, code_rank) (grind (arith, nat_tests))
 
-  by_trump : (t : ℕ) → (suit_code a.suit ≡ suit_code b.suit → ⊥)
-      → eqb (suit_code a.suit) t ≡ beats (of_trump (Some t)) (card_code a) (card_code b)
+  -- no card is beaten by one of another suit unless that is a trump
+  by_trump : (o : Option Suit) → (suit_code a.suit ≡ suit_code b.suit → ⊥)
+      → option_eq suit_eq.it o (Some a.suit) ≡ beats (of_trump (option_map suit_code o)) (card_code a) (card_code b)
   unfolding of_trump
-  by_trump t n = simp (code_suit, code_rank) (grind (arith, nat_tests))
+  by_trump None n = simp (code_suit, code_rank) (grind (arith, nat_tests))
+  by_trump (Some t) n = let e = suit_same t a.suit in e ∙ simp (code_suit, code_rank) (grind (arith, nat_tests))
 
 -- of one suit the higher card is the better one, and of two suits only a trump beats the other card
-pub same_suit : (d : Dealt) (a b : Card) → suit_code a.suit ≡ suit_code b.suit
-    → ltb (rank_code b.rank) (rank_code a.rank) ≡ beats d (card_code a) (card_code b)
-unfolding of_trump
-same_suit d a b = by_rank d.layouts d.leader a b d.trump
+module _ (p : Problem) (a b : Card) (x : Bool) where
+  pub higher_rank : x ≡ partial_gt rank_cmp.it a.rank b.rank → sameb suit_type a.suit b.suit ≡ true
+      → x ≡ beats (dealt_of p) (card_code a) (card_code b)
+  unfolding of_trump
+  higher_rank e s =
+      let d = dealt_of p in
+      e ∙ rank_above a.rank b.rank ∙ by_rank d.layouts d.leader a b d.trump (eqb-true _ _ (sym (suit_same a.suit b.suit) ∙ s))
 
-pub other_suit : (d : Dealt) (a b : Card) (t : ℕ) → d.trump ≡ Some t → (suit_code a.suit ≡ suit_code b.suit → ⊥)
-    → eqb (suit_code a.suit) t ≡ beats d (card_code a) (card_code b)
-unfolding of_trump
-other_suit d a b t e n =
-    by_trump d.layouts d.leader a b t n ∙ ap (λ (o : Option ℕ). beats (of_trump d.layouts d.leader a b o) (card_code a) (card_code b)) (sym e)
-
--- the first of them over the numbers that the code compares
-pub higher_rank : (p : Problem) (a b : Card) (x y : ℕ) → x ≡ rank_code a.rank → y ≡ rank_code b.rank → suit_code a.suit ≡ suit_code b.suit
-    → ltb y x ≡ beats (dealt_of p) (card_code a) (card_code b)
-higher_rank p a b x y e f g = let h = same_suit (dealt_of p) a b g in cc
+  pub trumped : x ≡ option_eq suit_eq.it (trump_suit_of p) (Some a.suit) → sameb suit_type a.suit b.suit ≡ false
+      → x ≡ beats (dealt_of p) (card_code a) (card_code b)
+  unfolding of_trump
+  trumped e s =
+      let d = dealt_of p in
+      e ∙ by_trump d.layouts d.leader a b (trump_suit_of p) (λ q. let f = suit_same a.suit b.suit in absurd (grind (arith, nat_tests)))

@@ -1,6 +1,7 @@
 -- The layouts of a deal, one after the other.
-use Rattle.std.proofs.Common.{◌≡◌, ℕ, zero, suc, ◌+◌, ◌^◌, ◌<◌, ◌≤◌, Bool, true, false, cond, ◌&&◌, ◌||◌, eqb, ltb, List, [], ◌∷◌, map, length, get_or, take, drop, Some, None, Option, sym, refl, ap, ◌∙◌, add-zero, pow-suc, add-one, arith, drop_of_length-le, length-take, bit_and, bit_or}
+use Rattle.std.proofs.Common.{◌≡◌, ℕ, zero, suc, ◌+◌, ◌^◌, ◌<◌, ◌≤◌, Bool, true, false, cond, ◌&&◌, ◌||◌, eqb, ltb, List, [], ◌∷◌, map, length, get_or, take, drop, sym, refl, ap, ◌∙◌, add-zero, pow-suc, add-one, arith, drop_of_length-le, length-take, bit_and, bit_or}
 use Rattle.std.specs.Int.Bits.{and_zero_l, or_zero_r}
+use Rattle.std.specs.Option.{unwrap_or}
 use Rattle.std.proofs.lemmas.List.{length-map}
 use Rattle.std.proofs.lemmas.Bool.{cond-true, cond-false, and_right}
 use Rattle.std.proofs.lemmas.Bool.Decides.{nat_tests}
@@ -21,10 +22,6 @@ use Rattle.deals.specs.States.{play_of, legal_there}
 
 -- ---- hands
 
-abbrev or_none : Option ℕ → ℕ
-or_none None = 0
-or_none (Some h) = h
-
 empty_hand : (k : ℕ) → hand nowhere k ≡ 0
 empty_hand zero = refl
 empty_hand (suc zero) = refl
@@ -38,16 +35,13 @@ beside d l (suc (suc zero)) = refl
 beside d l (suc (suc (suc k))) = refl
 
 -- the hand of a seat in a layout is what the problem answers, and empty where it has no such layout
-among : (d : Deal) (ls : List Defence) (i k : ℕ) → hand (get_or (map (four_hands d) ls) i nowhere) k ≡ or_none (hand_among d ls i k)
+among : (d : Deal) (ls : List Defence) (i k : ℕ) → hand (get_or (map (four_hands d) ls) i nowhere) k ≡ unwrap_or (hand_among d ls i k) 0
 among d [] i k = empty_hand k
 among d (l ∷ ls) zero k = beside d l k
 among d (l ∷ ls) (suc i) k = among d ls i k
 
-pub dealt_some : (d : Deal) (i k h : ℕ) → Some h ≡ hand_among d d.layouts i k → h ≡ hand (get_or (map (four_hands d) d.layouts) i nowhere) k
-dealt_some d i k h e = ap or_none e ∙ sym (among d d.layouts i k)
-
-pub dealt_none : (d : Deal) (i k : ℕ) → None ≡ hand_among d d.layouts i k → 0 ≡ hand (get_or (map (four_hands d) d.layouts) i nowhere) k
-dealt_none d i k e = ap or_none e ∙ sym (among d d.layouts i k)
+pub dealt_hand : (d : Deal) (i k : ℕ) → unwrap_or (hand_among d d.layouts i k) 0 ≡ hand (get_or (map (four_hands d) d.layouts) i nowhere) k
+dealt_hand d i k = sym (among d d.layouts i k)
 
 -- ---- there are at most six
 

@@ -19,7 +19,7 @@ use Rattle.deals.specs.Dealing.{dealt_of}
 use Rattle.deals.specs.Plans.{Beaten}
 use Rattle.deals.specs.Scores.{tricks_won, sets_made}
 use Rattle.deals.specs.Stands.{stand_of}
-use Rattle.deals.specs.States.{play_of, earlier_plays}
+use Rattle.deals.specs.States.{play_of}
 use Rattle.deals.specs.CoursesLemmas.{valid}
 use Rattle.deals.specs.Whole.{whole_deal, whole_course}
 
@@ -61,6 +61,6 @@ pub beaten : (s : Course) (target : ℕ) (v : FamilyScore) → v ≡ plan_family
 beaten s target v e =
     let d = dealt_of s.problem in
     let p = play_of s.present in
-    let qs = earlier_plays s.past s.count in
+    let qs = s.past in
     subst (Beaten (stand_of s) target) (sym e)
     (plan_theorem d (whole_deal d (valid s.problem)) target p (played_reached d p qs (whole_course d p qs s.legal)))

@@ -1,10 +1,9 @@
 -- What the course of play keeps: the states before the present one, and what legal cards make of it.
-use Rattle.std.specs.Prelude.{◌≡◌, ℕ, ◌+◌, ◌-◌, ◌<◌, ◌≤◌, true, List, [], ◌∷◌, ◌++◌, map, reverse, length, take, count_ones, slice_index_or, slice_set}
-use Rattle.std.proofs.Common.{sym, ap, ◌∙◌, subst, arith, length-take}
+use Rattle.std.specs.Prelude.{◌≡◌, ℕ, ◌+◌, ◌-◌, ◌<◌, ◌≤◌, true, List, [], ◌∷◌, length, count_ones}
+use Rattle.std.proofs.Common.{sym, ap, ◌∙◌, subst, arith}
 use Rattle.std.proofs.Math.Logic.{∥∥₁_elim, ∥∥₁_map}
 use Rattle.std.proofs.Math.Bridge.{le_prop}
 use Rattle.std.proofs.lemmas.Nat.{ones-le}
-use Rattle.std.proofs.lemmas.List.{take_more, take_more_set, map_push, length-reverse, reverse-append, length-map}
 use Rattle.lines.specs.declared.problem.Problem.{Problem}
 use Rattle.lines.specs.Told.{deal_of}
 use Rattle.cardplay.specs.Cards.{Dealt, Play, legal, after_card}
@@ -13,25 +12,9 @@ use Rattle.cardplay.proofs.CardLaws.{played_reached, won_few}
 use Rattle.cardplay.proofs.Dealing.{valid_dealt}
 use Rattle.cardplay.proofs.Reach.{Good, good_first, good_reached, live_small, legal_open, after_ones}
 use Rattle.deals.specs.declared.course.Course.{Course}
-use Rattle.deals.specs.declared.state.State.{State}
 use Rattle.deals.specs.Dealing.{dealt_of}
 use Rattle.deals.specs.Stands.{stand_of, can_choose}
-use Rattle.deals.specs.States.{play_of, earlier_plays}
-
--- ---- the states before
-
-latest : (xs : List State) (x : State) → reverse (map play_of (xs ++ (x ∷ []))) ≡ play_of x ∷ reverse (map play_of xs)
-latest xs x = ap reverse (map_push play_of xs x) ∙ reverse-append (map play_of xs) (play_of x ∷ [])
-
--- one more is written at the next place
-pub push : (xs : List State) (n : ℕ) (x : State) → n < length xs → earlier_plays (slice_set xs n x) (n + 1) ≡ play_of x ∷ earlier_plays xs n
-push xs n x l = ap (λ (ys : List State). reverse (map play_of ys)) (take_more_set xs n x l) ∙ latest (take n xs) x
-
--- the latest stands at the last place
-pub pop : (xs : List State) (n : ℕ) (x : State) → 0 < n → n - 1 < length xs → earlier_plays xs n ≡ play_of (slice_index_or xs (n - 1) x) ∷ earlier_plays xs (n - 1)
-pop xs n x z l =
-    let e : n ≡ n - 1 + 1 = omega arith in
-    ap (earlier_plays xs) e ∙ ap (λ (ys : List State). reverse (map play_of ys)) (take_more xs (n - 1) x l) ∙ latest (take (n - 1) xs) (slice_index_or xs (n - 1) x)
+use Rattle.deals.specs.States.{play_of}
 
 -- ---- a problem's deal is valid
 
@@ -47,12 +30,12 @@ module _ (s : Course) where
   pub course_won : s.present.won ≤ 13
   course_won =
       ∥∥₁_elim (valid s.problem) le_prop
-      (λ v. ∥∥₁_elim s.legal le_prop (λ r. won_few (dealt_of s.problem) (play_of s.present) (good (dealt_of s.problem) v (play_of s.present) (earlier_plays s.past s.count) r)))
+      (λ v. ∥∥₁_elim s.legal le_prop (λ r. won_few (dealt_of s.problem) (play_of s.present) (good (dealt_of s.problem) v (play_of s.present) s.past r)))
 
   pub course_live : s.present.live.0 < 64
   course_live =
       ∥∥₁_elim (valid s.problem) le_prop
-      (λ v. ∥∥₁_elim s.legal le_prop (λ r. live_small (dealt_of s.problem) v (play_of s.present) (good (dealt_of s.problem) v (play_of s.present) (earlier_plays s.past s.count) r)))
+      (λ v. ∥∥₁_elim s.legal le_prop (λ r. live_small (dealt_of s.problem) v (play_of s.present) (good (dealt_of s.problem) v (play_of s.present) s.past r)))
 
 -- every card is played or not
 all_cards : (d : Dealt) (p : Play) (qs : List Play) → Played d p qs → length qs + count_ones p.unplayed ≡ count_ones (first_play d).unplayed
@@ -72,12 +55,9 @@ room d v p qs r c h =
     let l = ones-le 52 (first_play d).unplayed (good_first d v).small in
     omega arith))
 
-pub free : (s : Course) (c : ℕ) → can_choose (stand_of s) c ≡ true → s.count < 52
+pub free : (s : Course) (c : ℕ) → can_choose (stand_of s) c ≡ true → length s.past < 52
 free s c h =
-    let a = room (dealt_of s.problem) (valid s.problem) (play_of s.present) (earlier_plays s.past s.count) s.legal c h in
-    let x = length-reverse (map play_of (take s.count s.past)) ∙ length-map (take s.count s.past) play_of ∙ length-take s.count s.past in
-    let p = s.places in let w = s.within in
-    omega arith
+    room (dealt_of s.problem) (valid s.problem) (play_of s.present) s.past s.legal c h
 
 -- a legal card goes on
 pub goes_on_legal : (d : Dealt) (p q : Play) (qs rs : List Play) (c : ℕ) → legal d p c ≡ true → q ≡ after_card d p c → rs ≡ p ∷ qs

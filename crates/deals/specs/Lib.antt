@@ -1,6 +1,8 @@
 pub mod Courses
 pub mod Dealing
 pub mod Opened
+pub mod Games
+pub mod PlanGames
 pub mod Plans
 pub mod Scores
 pub mod Stands

@@ -8,7 +8,7 @@ use Rattle.cardplay.specs.Cards.{Dealt, Play, legal, legal_cards, after_card, si
 use Rattle.cardplay.specs.Deals.{first_play, card_line}
 use Rattle.deals.specs.declared.course.Course.{Course}
 use Rattle.deals.specs.Dealing.{dealt_of}
-use Rattle.deals.specs.States.{play_of, earlier_plays}
+use Rattle.deals.specs.States.{play_of}
 
 -- the deal, the present state, and those before it, the latest first
 pub record Stand : Type 0 where
@@ -17,7 +17,7 @@ pub record Stand : Type 0 where
   pub earlier : List Play
 
 abbrev pub stand_of : Course → Stand
-stand_of c = record { deal = dealt_of c.problem; present = play_of c.present; earlier = earlier_plays c.past c.count }
+stand_of c = record { deal = dealt_of c.problem; present = play_of c.present; earlier = c.past }
 
 -- at the first state of a deal
 abbrev pub first_stand : Dealt → Stand

@@ -9,7 +9,7 @@ use Rattle.deals.specs.Tricks.{trick_codes}
 
 abbrev pub play_of : State → Play
 play_of s =
-    record { unplayed = s.unplayed.bits; leader = seat_number s.leader; trick = trick_codes s.trick; won = s.won; live = s.live.0 }
+    record { unplayed = s.unplayed; leader = seat_number s.leader; trick = trick_codes s.trick; won = s.won; live = s.live.0 }
 
 -- the first n of the past states, the latest first
 abbrev pub earlier_plays : List State → ℕ → List Play

@@ -51,9 +51,13 @@ impl Trick {
     {
         let [first, second, third] = match self {
             Trick::Empty => [0, 0, 0],
-            Trick::One(first) => [first.code(), 0, 0],
-            Trick::Two(first, second) => [first.code(), second.code(), 0],
-            Trick::Three(first, second, third) => [first.code(), second.code(), third.code()],
+            Trick::One(first) => [u8::from(first), 0, 0],
+            Trick::Two(first, second) => [u8::from(first), u8::from(second), 0],
+            Trick::Three(first, second, third) => [
+                u8::from(first),
+                u8::from(second),
+                u8::from(third),
+            ],
         };
         u64::from(self.len())
             + 4 * u64::from(first)
@@ -63,17 +67,14 @@ impl Trick {
 }
 
 /// Whether a card beats the best one before it in its trick.
-#[tactic(auto, using(crate::proofs::Beats::higher_rank))]
+#[tactic(auto, using(crate::proofs::Beats::higher_rank, crate::proofs::Beats::trumped))]
 pub(crate) fn beats(problem: &Problem, card: Card, best: Card) -> bool
     ensures { result ≡ beats (dealt_of problem.now) (card_code card) (card_code best) }
 {
-    if card.suit.code() == best.suit.code() {
-        return card.rank.code() > best.rank.code();
+    if card.suit == best.suit {
+        return card.rank > best.rank;
     }
-    match problem.trump() {
-        Some(trump) => card.suit.code() == trump.code(),
-        None => false,
-    }
+    problem.trump() == Some(card.suit)
 }
 
 /// The place of the card that wins a trick, from 0.
@@ -81,6 +82,7 @@ pub(crate) fn winner(problem: &Problem, first: Card, second: Card, third: Card, 
     ensures value { result ≡ winning_place (dealt_of problem.now) (card_code first ∷ card_code second ∷ card_code third ∷ card_code fourth ∷ []) }
     ensures bound { result < 4 }
 {
+    // Stays three tests in a row: a loop over the later cards was proved, but its invariant and lemmas are no plainer.
     let mut best = first;
     let mut place = 0;
     if beats(problem, second, best) {

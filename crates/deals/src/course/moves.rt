@@ -1,13 +1,14 @@
 //! What can be asked of the course of play, and how it goes on and back.
 
-ghost use Rattle.std.specs.Prelude.{◌≡◌, ◌<◌, ◌≤◌, true, [], length, MatchOption, ◌==◌, count_ones};
+ghost use Rattle.std.specs.Prelude.{◌≡◌, ◌<◌, ◌≤◌, true, length, ◌==◌, count_ones};
 ghost use Rattle.cards.specs.Codes.{card_code};
 ghost use Rattle.cardplay.specs.Cards.{legal_set, card_key};
 ghost use Rattle.deals.specs.Dealing.{dealt_of};
-ghost use Rattle.deals.specs.Courses.{After, Before};
+ghost use Rattle.deals.specs.Courses.{After};
 ghost use Rattle.deals.specs.Stands.{stand_of, first_stand, choices, can_choose, CardAt, PlaceOf, next_side, after_legal, can_go_on, after_place, can_go_back, after_back};
 
 use super::Course;
+use super::past::Past;
 use crate::state::State;
 use bitsets::BitSet;
 use cards::{Card, CardSet};
@@ -19,12 +20,12 @@ impl Course {
     pub fn new(problem: Problem) -> Course
         ensures { stand_of result ≡ first_stand (dealt_of problem) }
     {
-        let first = State::first(&problem);
+        let present = State::first(&problem);
+        let past = Past::new(&present);
         Course {
             problem,
-            present: first,
-            past: [first; 52],
-            count: 0,
+            present,
+            past,
         }
     }
 
@@ -67,12 +68,13 @@ impl Course {
 
     /// The legal cards.
     pub fn legal(&self) -> CardSet
-        ensures { result.bits ≡ legal_set (stand_of self.now).deal (stand_of self.now).present }
+        ensures { result ≡ legal_set (stand_of self.now).deal (stand_of self.now).present }
     {
         self.present.legal(&self.problem)
     }
 
     /// The number of legal cards.
+    #[tactic(auto, using(crate::proofs::Choices::listed_members))]
     pub fn children(&self) -> u32
         ensures { result ≡ length (choices (stand_of self.now)) }
     {
@@ -113,14 +115,14 @@ impl Course {
         requires { can_choose (stand_of self.old) (card_code card) ≡ true }
         ensures { stand_of self.new ≡ after_legal (stand_of self.old) (card_code card) }
     {
-        let before = self.present;
         let next = self.state_after(card);
-        self.past[self.count] = before;
+        let before = self.present;
+        self.past.push(before);
         self.present = next;
-        self.count += 1;
     }
 
     /// Plays the legal card at a place; false, and nothing changes, where there is none.
+    // Stays a bool, here and below, as a game's `play`, which it answers: there is one way to refuse.
     pub fn play(&mut self, place: u32) -> bool
         ensures told { result ≡ can_go_on (stand_of self.old) place }
         ensures goes { stand_of self.new ≡ after_place (stand_of self.old) place }
@@ -134,26 +136,15 @@ impl Course {
         }
     }
 
-    /// The state before the present one; none at the first state.
-    fn state_before(&self) -> Option<State>
-        ensures { MatchOption result ((stand_of self.now).earlier ≡ []) (Before self.now) }
-    {
-        if self.count == 0 {
-            return None;
-        }
-        Some(self.past[self.count - 1])
-    }
-
     /// Takes the last card back; false, and nothing changes, at the first state.
     pub fn take_back(&mut self) -> bool
         ensures told { result ≡ can_go_back (stand_of self.old) }
         ensures goes { stand_of self.new ≡ after_back (stand_of self.old) }
     {
-        let Some(before) = self.state_before() else {
+        let Some(before) = self.past.pop() else {
             return false;
         };
         self.present = before;
-        self.count -= 1;
         true
     }
 }

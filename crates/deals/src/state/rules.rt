@@ -12,8 +12,8 @@ ghost use Rattle.deals.specs.Tricks.{trick_codes};
 ghost use Rattle.deals.specs.States.{play_of, legal_there};
 
 use super::State;
+use crate::trick;
 use crate::trick::Trick;
-use crate::{seats, trick};
 use bitsets::BitSet;
 use cards::{Card, CardSet};
 use games::{Key, Side};
@@ -23,18 +23,16 @@ use lines::{Problem, Seat};
 const LAYOUTS: u32 = 6;
 
 /// The hand that a seat was dealt in a layout, from 0; no cards past the last layout.
+#[tactic(auto, using(crate::proofs::Layouts::dealt_hand))]
 fn dealt(problem: &Problem, place: u32, seat: Seat) -> CardSet
-    ensures { result.bits ≡ hand_of (layout (dealt_of problem.now) place) (seat_number seat) }
+    ensures { result ≡ hand_of (layout (dealt_of problem.now) place) (seat_number seat) }
 {
-    match problem.hand(place as usize, seat) {
-        Some(hand) => hand,
-        None => CardSet::EMPTY,
-    }
+    problem.hand(place as usize, seat).unwrap_or(CardSet::EMPTY)
 }
 
 /// The cards of a hand that may be played to a trick: those of the suit led, or any if there are none.
 fn following(hand: CardSet, trick: Trick) -> CardSet
-    ensures { result.bits ≡ may_play hand.bits (trick_codes trick) }
+    ensures { result ≡ may_play hand (trick_codes trick) }
 {
     match trick.led() {
         Some(suit) => {
@@ -47,8 +45,8 @@ fn following(hand: CardSet, trick: Trick) -> CardSet
 
 /// A set of cards without one of them.
 fn removed(cards: CardSet, card: Card) -> CardSet
-    requires { has cards.bits (card_code card) ≡ true }
-    ensures { result.bits ≡ cards.bits - 2 ^ card_code card }
+    requires { has cards (card_code card) ≡ true }
+    ensures { result ≡ cards - 2 ^ card_code card }
 {
     cards.without(card)
 }
@@ -82,14 +80,15 @@ fn every_layout(problem: &Problem) -> BitSet
 }
 
 /// A set of layouts with one layout more if a card is among those that are legal in it.
-fn with_legal(mut live: BitSet, place: u32, legal: CardSet, card: Card) -> BitSet
-    ensures added { has legal.bits (card_code card) ≡ true → (k : ℕ) → has result.0 k ≡ (has live.0 k || (k == place && nat_lt k 64)) }
-    ensures same { has legal.bits (card_code card) ≡ false → result.0 ≡ live.0 }
+fn with_legal(live: BitSet, place: u32, legal: CardSet, card: Card) -> BitSet
+    ensures added { has legal (card_code card) ≡ true → (k : ℕ) → has result.0 k ≡ (has live.0 k || (k == place && nat_lt k 64)) }
+    ensures same { has legal (card_code card) ≡ false → result.0 ≡ live.0 }
 {
     if legal.contains(card) {
-        live = live.with(place);
+        live.with(place)
+    } else {
+        live
     }
-    live
 }
 
 impl State {
@@ -109,15 +108,15 @@ impl State {
     }
 
     /// The seat that plays next.
-    pub fn to_play(self) -> Seat
-        ensures { (d : Dealt) → seat_number result ≡ to_play d (play_of self) }
+    pub fn to_play(&self) -> Seat
+        ensures { (d : Dealt) → seat_number result ≡ to_play d (play_of self.now) }
     {
-        seats::later(self.leader, self.trick.len())
+        self.leader.later(self.trick.len())
     }
 
     /// The side of the seat that plays next; none where all cards are played.
-    pub fn side(self) -> Option<Side>
-        ensures { (d : Dealt) → result ≡ (if nat_eq self.unplayed.bits 0 then None else Some (side_to_play d (play_of self))) }
+    pub fn side(&self) -> Option<Side>
+        ensures { (d : Dealt) → result ≡ (if nat_eq (play_of self.now).unplayed 0 then None else Some (side_to_play d (play_of self.now))) }
     {
         if self.unplayed.is_empty() {
             return None;
@@ -126,18 +125,19 @@ impl State {
     }
 
     /// The number of cards that are not played.
-    pub fn height(self) -> u32
-        ensures { result ≡ count_ones self.unplayed.bits }
+    #[tactic(auto, using(bitsets::proofs::Members::members_length))]
+    pub fn height(&self) -> u32
+        ensures { result ≡ count_ones (play_of self.now).unplayed }
     {
         self.unplayed.len()
     }
 
     /// The key: what is not played, the leader, the tricks won and the live layouts in one word, and the trick in another.
-    pub(crate) fn key(self) -> Key
-        requires { (self.won ≤ 13) × (self.live.0 < 64) }
-        ensures { (d : Dealt) → result ≡ card_key d (play_of self) }
+    pub(crate) fn key(&self) -> Key
+        requires { (self.now.won ≤ 13) × (self.now.live.0 < 64) }
+        ensures { (d : Dealt) → result ≡ card_key d (play_of self.now) }
     {
-        let leader = u64::from(seats::number(self.leader));
+        let leader = u64::from(self.leader.number());
         Key {
             first: self.unplayed.bits()
                 + (leader << 52)
@@ -148,8 +148,8 @@ impl State {
     }
 
     /// The cards that are legal in a layout, from 0; none where it is not live.
-    fn legal_in(self, problem: &Problem, place: u32) -> CardSet
-        ensures { result.bits ≡ legal_there (dealt_of problem.now) (play_of self) place }
+    fn legal_in(&self, problem: &Problem, place: u32) -> CardSet
+        ensures { result ≡ legal_there (dealt_of problem.now) (play_of self.now) place }
     {
         if !self.live.contains(place) {
             return CardSet::EMPTY;
@@ -160,8 +160,8 @@ impl State {
 
     /// The legal cards: those that are legal in a live layout.
     #[tactic(auto, using(crate::proofs::Layouts::more_hands))]
-    pub fn legal(self, problem: &Problem) -> CardSet
-        ensures { result.bits ≡ legal_set (dealt_of problem.now) (play_of self) }
+    pub fn legal(&self, problem: &Problem) -> CardSet
+        ensures { result ≡ legal_set (dealt_of problem.now) (play_of self.now) }
     {
         let mut cards = CardSet::EMPTY;
         for place in 0..LAYOUTS {
@@ -171,8 +171,8 @@ impl State {
     }
 
     /// The live layouts in which a card is legal.
-    fn live_after(self, problem: &Problem, card: Card) -> BitSet
-        ensures { result.0 ≡ live_after (dealt_of problem.now) (play_of self) (card_code card) }
+    fn live_after(&self, problem: &Problem, card: Card) -> BitSet
+        ensures { result.0 ≡ live_after (dealt_of problem.now) (play_of self.now) (card_code card) }
     {
         let mut live = BitSet::EMPTY;
         for place in 0..LAYOUTS {
@@ -182,9 +182,9 @@ impl State {
     }
 
     /// The state once a card is played.
-    pub(crate) fn after(self, problem: &Problem, card: Card) -> State
-        requires { (has self.unplayed.bits (card_code card) ≡ true) × (self.won ≤ 13) }
-        ensures { play_of result ≡ after_card (dealt_of problem.now) (play_of self) (card_code card) }
+    pub(crate) fn after(&self, problem: &Problem, card: Card) -> State
+        requires { (has self.now.unplayed (card_code card) ≡ true) × (self.now.won ≤ 13) }
+        ensures { play_of result ≡ after_card (dealt_of problem.now) (play_of self.now) (card_code card) }
     {
         let unplayed = removed(self.unplayed, card);
         let live = self.live_after(problem, card);
@@ -193,10 +193,8 @@ impl State {
             Trick::One(first) => Trick::Two(first, card),
             Trick::Two(first, second) => Trick::Three(first, second, card),
             Trick::Three(first, second, third) => {
-                let leader = seats::later(
-                    self.leader,
-                    trick::winner(problem, first, second, third, card),
-                );
+                let winner = trick::winner(problem, first, second, third, card);
+                let leader = self.leader.later(winner);
                 let won = self.won + counted(leader);
                 return State {
                     unplayed,
@@ -211,7 +209,7 @@ impl State {
             unplayed,
             trick,
             live,
-            ..self
+            ..*self
         }
     }
 }

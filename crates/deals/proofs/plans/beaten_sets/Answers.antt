@@ -11,5 +11,5 @@ returns c =
     let g = c.args.game.now in
     let d = dealt_of g.course.problem in
     let p = play_of g.course.present in
-    let v : family_of c.evaluate.result.value ≡ plan_family d g.target p = c.evaluate.ensures.value ∙ plan_value d g.target p in
-    record { value = v; plans = beaten g.course g.target _ v; positions = c.evaluate.ensures.positions; same = c.evaluate.ensures.same }
+    let v : family_of c.evaluate.result.value ≡ plan_family d g.aim.0 p = c.evaluate.ensures.value ∙ plan_value d g.aim.0 p in
+    record { value = v; plans = beaten g.course g.aim.0 _ v; positions = c.evaluate.ensures.positions; same = c.evaluate.ensures.same }

@@ -10,7 +10,7 @@ use Rattle.deals.proofs.state.State.legal_in.Goals as goal
 pub returns : goal.returns
 returns c =
     let d = dealt_of c.args.problem.now in
-    let p = play_of c.args.self in
+    let p = play_of c.args.self.now in
     let i = c.args.place in
     c.following.ensures
     ∙ ap (λ (h : ℕ). may_play h p.trick)

@@ -1,9 +1,0 @@
-use Rattle.std.proofs.Common.{◌∙◌}
-use Rattle.deals.specs.Scores.{sets_made}
-use Rattle.deals.specs.Stands.{stand_of}
-use Rattle.deals.proofs.Lines.{line_height}
-use Rattle.deals.proofs.plan_game.PlanGameGame.height.Goals as goal
-
-pub returns : goal.returns
-returns c =
-    let s = stand_of c.args.self.now.course in c.height.ensures ∙ line_height (sets_made c.args.self.now.target) s.deal s.present
