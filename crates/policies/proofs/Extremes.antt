@@ -1,6 +1,8 @@
 -- The lowest and the highest member of a set of places, by counts of zeros.
 use Rattle.std.proofs.Common.{◌≡◌, ℕ, zero, suc, ◌-◌, ◌^◌, ◌<◌, ◌≤◌, Bool, true, false, ◌⊎◌, Some, None, sym, refl, ap, ◌∙◌, subst, inl, inr, arith}
-use lib.Count.{count_leading_zeros, count_trailing_zeros, leading_top}
+use Rattle.std.specs.Int.Count.{count_leading_zeros, count_trailing_zeros}
+use Rattle.std.proofs.lemmas.Nat.{leading_top}
+use Rattle.std.proofs.lemmas.Option.{none-some}
 use Rattle.std.proofs.lemmas.Bool.{both_ways, cases_eq, cases_Bool}
 use Rattle.bitsets.specs.Sets.{has}
 use Rattle.bitsets.proofs.Digits.{test_false, has_below, has_high, has_zero, below_pow, trailing_has, trailing_least}
@@ -35,7 +37,7 @@ module _ (f : ℕ → Bool) where
       by ih (inr ne) = let h = rest n (omega arith) in let a = ih (omega arith) in rw (h, a)
 
   none_chosen : ((k : ℕ) → f k ≡ false) → Chosen f None
-  none_chosen rest = record { some = λ p e. let z : ◌≡◌ {A = ℕ} 0 1 = cc in absurd (omega arith); none = λ e. rest }
+  none_chosen rest = record { some = λ p e. absurd (none-some p e); none = λ e. rest }
 
 -- the digit at the top
 top_has : (x j : ℕ) → 2 ^ j ≤ x → x < 2 ^ suc j → has x j ≡ true
@@ -61,7 +63,7 @@ module _ (f : ℕ → Bool) (n x : ℕ) (same : (k : ℕ) → has x k ≡ f k) (
   pub lowest_empty : x ≡ 0 → (None ≡ lowest_with f n) × LowestOf f None
   lowest_empty e = (
     sym (low_none f n (λ k l. no_member e k)),
-    record { chosen = none_chosen f (no_member e); least = λ p h. let z : ◌≡◌ {A = ℕ} 0 1 = cc in absurd (omega arith) },
+    record { chosen = none_chosen f (no_member e); least = λ p h. absurd (none-some p h) },
   )
 
   pub lowest_some : 0 < x → x < 2 ^ 64 → (Some (count_trailing_zeros 64 x) ≡ lowest_with f n) × LowestOf f (Some (count_trailing_zeros 64 x))
@@ -77,7 +79,7 @@ module _ (f : ℕ → Bool) (n x : ℕ) (same : (k : ℕ) → has x k ≡ f k) (
   pub highest_empty : x ≡ 0 → (None ≡ highest_with f n) × HighestOf f None
   highest_empty e = (
     sym (high_none f n (no_member e)),
-    record { chosen = none_chosen f (no_member e); greatest = λ p h. let z : ◌≡◌ {A = ℕ} 0 1 = cc in absurd (omega arith) },
+    record { chosen = none_chosen f (no_member e); greatest = λ p h. absurd (none-some p h) },
   )
 
   pub highest_some : 0 < x → x < 2 ^ 64 → (Some (63 - count_leading_zeros 64 x) ≡ highest_with f n) × HighestOf f (Some (63 - count_leading_zeros 64 x))

@@ -1,6 +1,7 @@
 -- Each policy keeps to the law.
 use Rattle.std.specs.Prelude.{◌≡◌, ℕ, zero, suc, ◌<◌, ◌≤◌, Bool, true, false, Some, None, Option}
 use Rattle.std.proofs.Common.{sym, ⊎_elim, arith}
+use Rattle.std.proofs.lemmas.Option.{none-some}
 use Rattle.std.proofs.lemmas.Bool.{cases_Bool, cases_eq, cases_lt, le-ltb}
 use Rattle.policies.specs.Policies.{PolicyOps, PolicyLaws, Chosen, free, or_next, lowest_with, highest_with, lowest_ops, highest_ops, last_at, if_with, recent_ops}
 
@@ -18,18 +19,18 @@ whole f n r out b = record {
 
 -- no number is below 0
 below_none : (f : ℕ → Bool) → Below f 0 None
-below_none f = record { some = λ p e. let z : ◌≡◌ {A = ℕ} 0 1 = cc in absurd (omega arith); none = λ e j lt. absurd (omega arith) }
+below_none f = record { some = λ p e. absurd (none-some p e); none = λ e j lt. absurd (omega arith) }
 
 -- one number more, that has f
 below_yes : (f : ℕ → Bool) (k : ℕ) → f k ≡ true → Below f (suc k) (Some k)
 below_yes f k h = record {
   some = λ p e. let q : k ≡ p = cc in rw (sym q) h;
-  none = λ e j lt. let z : ◌≡◌ {A = ℕ} 0 1 = cc in absurd (omega arith);
+  none = λ e j lt. absurd (none-some _ (sym e));
 }
 
 -- one number more, where one was found before
 below_kept : (f : ℕ → Bool) (k q : ℕ) → Below f k (Some q) → Below f (suc k) (Some q)
-below_kept f k q b = record { some = b.some; none = λ e j lt. let z : ◌≡◌ {A = ℕ} 0 1 = cc in absurd (omega arith) }
+below_kept f k q b = record { some = b.some; none = λ e j lt. absurd (none-some _ (sym e)) }
 
 -- one number more, that has not f
 below_no : (f : ℕ → Bool) (k : ℕ) (r : Option ℕ) → f k ≡ false → Below f k r → Below f (suc k) r
@@ -67,7 +68,7 @@ highest_laws = record { chooses = λ m d t n h. whole (free t n) n (highest_with
 pub one_chosen : (f : ℕ → Bool) (q : ℕ) → f q ≡ true → Chosen f (Some q)
 one_chosen f q h = record {
   some = λ p e. let w : q ≡ p = cc in rw (sym w) h;
-  none = λ e k. let z : ◌≡◌ {A = ℕ} 0 1 = cc in absurd (omega arith);
+  none = λ e k. absurd (none-some _ (sym e));
 }
 
 -- what is noticed, or else what is chosen

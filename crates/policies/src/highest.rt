@@ -7,6 +7,7 @@ use crate::{Policy, untaken};
 use bitsets::BitSet;
 
 /// Chooses the highest untaken place, and keeps nothing.
+// Stays beside Lowest: a trait for the choice, with an impl for each of the two, would be longer than both files.
 #[derive(Clone, Copy)]
 pub struct Highest;
 

@@ -23,16 +23,13 @@ impl Noticed {
     fn at(&self, depth: u32) -> Option<u32>
         ensures { result ≡ last_at self.now.places depth }
     {
-        if depth < 64 {
-            self.places[depth as usize]
-        } else {
-            None
-        }
+        *self.places.get(depth as usize)?
     }
 
     fn keep(&mut self, depth: u32, place: u32)
         ensures { self.new.places ≡ noted self.old.places depth place }
     {
+        // Stays a test of the depth: through get_mut the proof did not close.
         if depth < 64 {
             self.places[depth as usize] = Some(place);
         }
@@ -48,10 +45,12 @@ pub struct Recent<P: Policy> {
 }
 
 impl<P: Policy> Recent<P> {
+    ghost use Rattle.policies.specs.Recents.{below_of};
+
     /// A policy that has noticed nothing yet.
     pub fn new(below: P) -> Recent<P>
-        ensures own { result.noticed.places ≡ replicate 64 None }
-        ensures below { result.below ≡ below }
+        ensures meaning { ⟦<Recent<P> as Policy>⟧.model result ≡ record { noticed = replicate 64 None; below = P.Policy.model below } }
+        ensures below { below_of result ≡ below }
     {
         Recent {
             noticed: Noticed::new(),
@@ -70,10 +69,10 @@ impl<P: Policy> Policy for Recent<P> {
     ghost laws = { recent_laws P.Policy.ops P.Policy.laws };
 
     fn choose(&self, depth: u32, taken: BitSet, children: u32) -> Option<u32> {
-        match self.noticed.at(depth) {
-            Some(place) if untaken::is_free(place, taken, children) => Some(place),
-            _ => self.below.choose(depth, taken, children),
-        }
+        self.noticed
+            .at(depth)
+            .filter(|place| untaken::is_free(*place, taken, children))
+            .or_else(|| self.below.choose(depth, taken, children))
     }
 
     fn notice(&mut self, depth: u32, place: u32) {

@@ -25,6 +25,7 @@ pub fn is_free(place: u32, taken: BitSet, children: u32) -> bool
 }
 
 /// The lowest place that may be chosen.
+// Stays beside `highest`: each counts zeros from its own end, and one function would take that count as a closure.
 pub fn lowest(taken: BitSet, children: u32) -> Option<u32>
     ensures value { result ≡ lowest_with (free taken.0 children) children }
     ensures lowest { LowestOf (free taken.0 children) result }

@@ -1,20 +1,23 @@
 -- What a bracket in hand says, and the whole of what a search promises.
-use Rattle.std.proofs.Common.{◌≡◌, ℕ, suc, ◌-◌, ◌^◌, ◌<◌, min, true, List, [], ◌∷◌, length, sym, refl, ap, ◌∙◌, subst, ⊎_elim, arith}
-use mathlib.Core.Bool.{false≢true}
+use Rattle.std.proofs.Common.{◌≡◌, ℕ, suc, ◌-◌, ◌^◌, ◌<◌, min, true, true≢false, List, [], ◌∷◌, length, sym, refl, ap, ◌∙◌, subst, ⊎_elim, arith}
 use Rattle.std.proofs.lemmas.Bool.{cases_Bool}
+use Rattle.lattice.specs.declared.Lattice.{Ghosts as Scores}
 use Rattle.lattice.specs.declared.bracket.Bracket.{Bracket}
 use Rattle.lattice.specs.Scores.{Scoring, Laws}
 use Rattle.lattice.specs.Windows.{Around, decided}
 use Rattle.lattice.proofs.Order.{Settles, u_refl, u_trans, settled, equal_same}
 use Rattle.games.specs.Trees.{Tree, Line, height_of, plain, loaded, Lawful}
+use Rattle.tables.specs.declared.Table.{Ghosts as Tables}
 use Rattle.tables.specs.Tables.{TableOps, TableLaws}
+use Rattle.policies.specs.declared.Policy.{Ghosts as Policies}
 use Rattle.policies.specs.Policies.{PolicyOps, PolicyLaws}
 use Rattle.search.specs.declared.frame.Frame.{Frame}
 use Rattle.search.specs.declared.frame.Hand.{Hand}
 use Rattle.search.specs.declared.frame.Hand.TheVariants.{Enter, Holding, Nothing}
-use Rattle.search.specs.Steps.{Search, rests, finished, stepped, ran, entries}
+use Rattle.search.specs.Steps.{Search, rests, finished, ran, entries}
 use Rattle.search.specs.Invariant.{Waits, Running, Honest, Invariant}
-use Rattle.search.specs.Promises.{began, backs, plays, InHand, Answers, StepKeeps, RunKeeps, Searched, Promise}
+use Rattle.search.specs.Bounds.{stepped_of, ran_of, StepKeepsOf, RunKeepsOf, PromiseOf}
+use Rattle.search.specs.Promises.{began, backs, plays, InHand, Answers, Searched, Promise}
 use Rattle.search.proofs.Kept.{stepped_kept}
 use Rattle.search.proofs.Runs.{to_do_some, went, did}
 
@@ -58,9 +61,9 @@ module _ {S C : Type 0} (o : Scoring C) (st : S → C) (base : Line S) (w₀ : B
   finish_answers : {M P : Type 0} (tb : TableOps M) → Laws o → (s : Search S C M P) (fs : List (Frame C)) (h : Hand C) → s.hand ≡ h
       → Running o st base w₀ s.line.present s.line.earlier fs h → rests fs h ≡ true
       → (b : Bracket C) × (s.hand ≡ Holding b) × Answers o st tb base w₀ s b
-  finish_answers tb law s [] (Enter w) i e q = absurd (false≢true q)
-  finish_answers tb law s [] Nothing i e q = absurd (false≢true q)
-  finish_answers tb law s (f ∷ fs) h i e q = absurd (false≢true q)
+  finish_answers tb law s [] (Enter w) i e q = absurd (true≢false (sym q))
+  finish_answers tb law s [] Nothing i e q = absurd (true≢false (sym q))
+  finish_answers tb law s (f ∷ fs) h i e q = absurd (true≢false (sym q))
   finish_answers tb law s [] (Holding b) i e q =
       let (w, from, around, settles) = e in
       let a : Around o b (plain o st base.present) = subst (λ x. Around o b (plain o st x)) (sym from.0) around in
@@ -110,9 +113,13 @@ module _ {S C M P : Type 0} (o : Scoring C) (st : S → C) (tb : TableOps M) (ch
     search = searched;
   }
 
-  -- the promise of a step and of a run, for what they are proved to leave
-  pub step_keeps : (s z : Search S C M P) → z ≡ stepped o st tb ch s → StepKeeps o st tb s z
-  step_keeps s z e = subst (StepKeeps o st tb s) (sym e) (promised.step s)
+-- the same of what the bounds of an engine mean, and the promise of a step and of a run for what they are proved to leave
+module _ {S T P : Type 0} (score : Scores S) (table : Tables T) (policy : Policies P) where
+  pub promise_of : PromiseOf score table policy
+  promise_of = promised score.scoring score.stands table.ops policy.ops score.laws table.laws policy.laws
 
-  pub run_keeps : (n : ℕ) (s z : Search S C M P) → z ≡ ran o st tb ch n s → RunKeeps o st tb n (entries o st tb ch n s) s z
-  run_keeps n s z e = subst (RunKeeps o st tb n (entries o st tb ch n s) s) (sym e) (promised.run n s)
+  pub step_keeps : (s z : Search S score.Score table.Model policy.Model) → z ≡ stepped_of score table policy s → StepKeepsOf score table s z
+  step_keeps s z e = subst (StepKeepsOf score table s) (sym e) (promise_of.step s)
+
+  pub run_keeps : (n : ℕ) (s z : Search S score.Score table.Model policy.Model) → z ≡ ran_of score table policy n s → RunKeepsOf score table policy n s z
+  run_keeps n s z e = subst (RunKeepsOf score table policy n s) (sym e) (promise_of.run n s)

@@ -1,7 +1,6 @@
 -- What an open position has found stays fair: at its start, with one more child, and when it closes.
-use Rattle.std.proofs.Common.{◌≡◌, ℕ, zero, suc, ◌^◌, ◌<◌, true, Some, sym, ◌∙◌, subst, ⊎_elim, arith, lit<}
-use mathlib.Core.Bool.{false≢true}
-use lib.Bits.{bit_or}
+use Rattle.std.proofs.Common.{◌≡◌, ℕ, zero, suc, ◌^◌, ◌<◌, true, true≢false, Some, sym, ◌∙◌, subst, ⊎_elim, arith, lit<}
+use Rattle.std.specs.Prelude.{bit_or}
 use Rattle.bitsets.specs.Sets.{has}
 use Rattle.bitsets.proofs.Digits.{has_zero}
 use Rattle.lattice.specs.declared.bracket.Bracket.{Bracket}
@@ -53,7 +52,7 @@ module _ {C : Type 0} (o : Scoring C) (law : Laws o) where
 
 module _ {S C : Type 0} (o : Scoring C) (st : S → C) (law : Laws o) where
   no_member : (p : ℕ) → has 0 p ≡ true → ⊥
-  no_member p z = false≢true (sym (has_zero p) ∙ z)
+  no_member p z = true≢false (sym z ∙ has_zero p)
 
   pub start_fair : (d : Side) (t : Tree S) (ts : Forest S) (w : Bracket C) → Fair o st d t ts w (start o d) 0
   start_fair Max t ts w = record {

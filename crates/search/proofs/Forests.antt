@@ -1,6 +1,6 @@
 -- Sizes of trees, and of the children that a set of places lacks.
 use Rattle.std.proofs.Common.{◌≡◌, ℕ, zero, suc, ◌+◌, ◌^◌, ◌<◌, ◌≤◌, true, false, cond, sym, refl, ap, ◌∙◌, subst, arith}
-use lib.Bits.{bit_or}
+use Rattle.std.specs.Prelude.{bit_or}
 use Rattle.bitsets.specs.Sets.{has}
 use Rattle.bitsets.proofs.Digits.{has_zero, has_put, has_put_other}
 use Rattle.games.specs.Trees.{Tree, over, turn, Forest, none, also, count, children_of, child, place_or, size, sizes, Within, here, below}

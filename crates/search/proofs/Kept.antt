@@ -1,7 +1,8 @@
 -- A step keeps the invariant of a search, and comes nearer to its end.
-use Rattle.std.proofs.Common.{◌≡◌, ℕ, ◌^◌, ◌<◌, ◌≤◌, Bool, true, false, cond, not, ◌&&◌, ltb, leb, List, [], ◌∷◌, length, Some, None, Option, sym, refl, ap, ◌∙◌, subst, ⊎_elim, true≢false, arith}
-use lib.Bits.{bit_or}
-use Rattle.std.proofs.lemmas.Bool.{cond_both, cases_Bool, and_parts, and_from, not-true, ltb-true, ltb-false, lt-ltb, le-leb}
+use Rattle.std.proofs.Common.{◌≡◌, ℕ, ◌^◌, ◌<◌, ◌≤◌, Bool, true, false, cond, ltb, List, [], ◌∷◌, length, Some, None, Option, sym, refl, ap, ◌∙◌, subst, ⊎_elim, true≢false, arith}
+use Rattle.std.specs.Prelude.{bit_or}
+use Rattle.std.proofs.lemmas.Option.{none-some}
+use Rattle.std.proofs.lemmas.Bool.{cond_both, cases_Bool, ltb-false, lt-ltb}
 use Rattle.bitsets.specs.Sets.{has}
 use Rattle.lattice.specs.declared.bracket.Bracket.{Bracket}
 use Rattle.lattice.specs.Scores.{Scoring, Laws}
@@ -14,6 +15,7 @@ use Rattle.games.specs.Trees.{Tree, over, turn, Forest, Line, key_of, height_of,
 use Rattle.tables.specs.declared.claim.Claim.{Claim}
 use Rattle.tables.specs.Tables.{TableOps, TableLaws}
 use Rattle.policies.specs.Policies.{PolicyOps, PolicyLaws, free}
+use Rattle.policies.proofs.Uses.{free_parts, parts_free}
 use Rattle.search.specs.declared.frame.Frame.{Frame}
 use Rattle.search.specs.declared.frame.Hand.{Hand}
 use Rattle.search.specs.declared.frame.Hand.TheVariants.{Enter, Holding, Nothing}
@@ -28,28 +30,16 @@ use Rattle.search.proofs.Depth.{waits_within, waits_deep}
 some_same : {A : Type 0} {a b : A} → Some a ≡ Some b → a ≡ b
 some_same q = cc
 
-none_some : {A : Type 0} {a : A} → None ≡ Some a → ⊥
-none_some q = let z : ◌≡◌ {A = ℕ} 0 1 = cc in omega arith
-
--- what a choice says: the place chosen is a child's and not taken, and where none is chosen all are taken
-free_parts : (t n p : ℕ) → free t n p ≡ true → (p < n) × (has t p ≡ false)
-free_parts t n p e =
-    let a = and_parts (ltb p n && leb n 64) (not (has t p)) e in
-    let b = and_parts (ltb p n) (leb n 64) a.0 in
-    (ltb-true p n b.0, not-true (has t p) a.1)
-
 not_free : (t n p : ℕ) → n ≤ 64 → p < n → free t n p ≡ false → has t p ≡ true
 not_free t n p few h e =
-    ⊎_elim (λ x. x)
-    (λ x. absurd (true≢false (sym (and_from (ltb p n && leb n 64) (not (has t p)) (and_from (ltb p n) (leb n 64) (lt-ltb p n h) (le-leb n 64 few)) (ap not x)) ∙ e)))
-    (cases_Bool (has t p))
+    ⊎_elim (λ x. x) (λ x. absurd (true≢false (sym (parts_free t n p h few x) ∙ e))) (cases_Bool (has t p))
 
 module _ {C : Type 0} (o : Scoring C) (law : Laws o) where
   -- a claim that is used settles the window, and its codes are those of its ends
   read_fair : (w b : Bracket C) (l h : Option C) → if_decided o w (paired l h) ≡ Some b
       → Settles o w b × (l ≡ Some b.lo) × (h ≡ Some b.hi)
-  read_fair w b None h e = absurd (none_some e)
-  read_fair w b (Some l) None e = absurd (none_some e)
+  read_fair w b None h e = absurd (none-some _ e)
+  read_fair w b (Some l) None e = absurd (none-some _ e)
   read_fair w b (Some l) (Some h) e = go (decided o w (record { lo = l; hi = h })) refl e
     where
       go : (x : Bool) → decided o w (record { lo = l; hi = h }) ≡ x → cond x (Some (record { lo = l; hi = h })) None ≡ Some b
@@ -57,7 +47,7 @@ module _ {C : Type 0} (o : Scoring C) (law : Laws o) where
       go true p q =
           let r : ◌≡◌ {A = Bracket C} (record { lo = l; hi = h }) b = cc in
           (subst (λ x. Settles o w x) r (decided_settles o law w (record { lo = l; hi = h }) p), ap (λ x. Some x.lo) r, ap (λ x. Some x.hi) r)
-      go false p q = absurd (none_some q)
+      go false p q = absurd (none-some _ q)
 
 module _ {C : Type 0} (o : Scoring C) where
   narrowed_marked : (d : Side) (f : Frame C) (n : ℕ) → narrowed o d (marked f n) ≡ narrowed o d f
@@ -91,7 +81,7 @@ module _ {S C M P : Type 0} (o : Scoring C) (st : S → C) (tb : TableOps M) (ch
   -- a claim of the table that decides the window
   claim_fair : (t : Tree S) (m : M) (w b : Bracket C) → Within t (loaded base) → Honest o st tb (loaded base) m
       → (a : Option Claim) → tb.answer m (key_of t) ≡ a → claimed o w a ≡ Some b → Around o b (plain o st t) × Settles o w b
-  claim_fair t m w b i y None e q = absurd (none_some q)
+  claim_fair t m w b i y None e q = absurd (none-some _ q)
   claim_fair t m w b i y (Some c) e q =
       let r = read_fair o law w b (o.decode c.lo) (o.decode c.hi) q in
       let a = tl.answers m (key_of t) c e in
@@ -222,7 +212,7 @@ module _ {S C M P : Type 0} (o : Scoring C) (st : S → C) (tb : TableOps M) (ch
       let there : after_play l i ≡ to = ap (λ b. cond b to l) can in
       subst (λ b. Kept o st tb base w₀ s (cond b (moved s (after_play l i) m p (marked f i ∷ fs) (Enter (narrowed o d f))) s)) (sym can)
       (subst (λ a. Kept o st tb base w₀ s (moved s a m p (marked f i ∷ fs) (Enter (narrowed o d f)))) (sym there)
-      (play_kept k g d ts us m p f fs ps n u i e v few x.0 x.1 z y))
+      (play_kept k g d ts us m p f fs ps n u i e v few x.0 x.2 z y))
 
   resume_kept : (k : Key) (g : ℕ) (d : Side) (ts : Forest S) (us : List (Tree S)) (m : M) (p : P) (f : Frame C) (fs : List (Frame C)) (ps n u : ℕ)
       → Waits o st base w₀ (turn k g d ts) us f.window fs → Fair o st d (turn k g d ts) ts f.window f.found f.taken.0

@@ -1,3 +1,4 @@
+pub mod Bounds
 pub mod Steps
 pub mod Invariant
 pub mod Promises

@@ -41,6 +41,10 @@ module _ {S : Type 0} {meaning : Ghosts S} where
   abbrev pub room : SearchStack S meaning → ℕ
   room k = min (length k.places.now) (2 ^ 32 - 1)
 
+  -- the job that the stack is marked with, or 0
+  abbrev pub job_of : SearchStack S meaning → ℕ
+  job_of k = k.job
+
 module _ {S C : Type 0} (st : S → C) where
   -- a frame, frames and what is in hand by the scores that their values stand for
   abbrev pub framed : Frame S → Frame C

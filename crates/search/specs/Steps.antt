@@ -5,7 +5,7 @@
 use Rattle.std.specs.Prelude.{ℕ, zero, suc, ◌+◌, ◌-◌, ◌^◌, min, Bool, true, false, cond, List, [], ◌∷◌, length, Some, None, Option, bit_or, nat_lt}
 use Rattle.lattice.specs.declared.bracket.Bracket.{Bracket}
 use Rattle.lattice.specs.Scores.{Scoring}
-use Rattle.lattice.specs.Windows.{read_decided}
+use Rattle.lattice.specs.Windows.{point, whole, read_decided}
 use Rattle.games.specs.declared.key.Key.{Key}
 use Rattle.games.specs.declared.side.Side.{Side}
 use Rattle.games.specs.declared.side.Side.TheVariants.{Max, Min}
@@ -44,6 +44,10 @@ module _ {C : Type 0} (o : Scoring C) where
   claimed w None = None
   claimed w (Some c) = read_decided o c.lo c.hi w
 
+  -- the frame of no position, with every score in its window
+  abbrev pub blank : Frame C
+  blank = record { window = whole o; found = whole o; taken = record { 0 = 0 }; last = None }
+
   -- the bracket of a position before its first child
   abbrev pub start : Side → Bracket C
   start Max = record { lo = o.bottom; hi = o.bottom }
@@ -77,10 +81,6 @@ module _ {C : Type 0} (o : Scoring C) where
   claim k b = record { key = k; lo = o.code b.lo; hi = o.code b.hi }
 
 module _ {C : Type 0} where
-  -- the bracket of one score
-  abbrev pub point : C → Bracket C
-  point v = record { lo = v; hi = v }
-
   -- the frame once the child at the place n is taken
   abbrev pub marked : Frame C → ℕ → Frame C
   marked f n = record { window = f.window; found = f.found; taken = record { 0 = with_place f.taken.0 n }; last = Some n }

@@ -29,6 +29,7 @@ pub enum Hand<S: Lattice> {
 }
 
 /// How far a search has come: what is in hand, the positions entered and the claims used.
+// Stays apart from the stack: an analyst keeps the progress and its caller the stack, and each call has both by borrows.
 #[derive(Clone, Copy)]
 pub struct Progress<S: Lattice> {
     pub hand: Hand<S>,

@@ -1,6 +1,7 @@
 -- Each table keeps to the laws.
 use Rattle.std.specs.Prelude.{◌≡◌, ℕ, ◌<◌, ◌≤◌, true, false, ◌⊎◌, List, length, get_or, set, replicate, Some, None, Option, ◌==◌, ◌≢◌, slice_index_or, slice_set}
-use Rattle.std.proofs.Common.{ap₂, inl, inr, ⊎_elim, arith, length-set, get_or-set_same, get_or-set_other}
+use Rattle.std.proofs.Common.{sym, ◌∙◌, ap₂, inl, inr, ⊎_elim, length-set, get_or-set_same, get_or-set_other}
+use Rattle.std.proofs.lemmas.Option.{none-some}
 use Rattle.std.proofs.lemmas.List.{length-replicate, get_or-replicate}
 use Rattle.std.proofs.Math.ListN.{get_or-eq_default}
 use Rattle.std.proofs.Math.Seq.{set_out}
@@ -12,7 +13,7 @@ use Rattle.tables.specs.Tables.{TableOps, TableLaws, empty_ops, or_else, layered
 
 pub empty_laws : TableLaws empty_ops
 empty_laws = record {
-  answers = λ m k c e. let z : ◌≡◌ {A = ℕ} 0 1 = cc in absurd (omega arith);
+  answers = λ m k c e. absurd (none-some c e);
   puts = λ m c d h. absurd h;
   clears = λ m d h. h;
 }
@@ -26,7 +27,7 @@ same_key_true j k e =
 
 -- an answer from a place stands there, and is of the key
 answer_of : (k : Key) (c : Claim) (p : Option Claim) → if_of k p ≡ Some c → (p ≡ Some c) × (c.key ≡ k)
-answer_of k c None e = let z : ◌≡◌ {A = ℕ} 0 1 = cc in absurd (omega arith)
+answer_of k c None e = absurd (none-some c e)
 answer_of k c (Some d) e = by (cases_Bool (same_key d.key k))
   where
     by : (same_key d.key k ≡ true) ⊎ (same_key d.key k ≡ false) → (Some d ≡ Some c) × (c.key ≡ k)
@@ -35,7 +36,7 @@ answer_of k c (Some d) e = by (cases_Bool (same_key d.key k))
         let v : d ≡ c = cc in
         let w : d.key ≡ k = same_key_true d.key k t in
         (u, cc)
-    by (inr t) = let u : None ≡ Some c = rw t at e in let z : ◌≡◌ {A = ℕ} 0 1 = cc in absurd (omega arith)
+    by (inr t) = let u : None ≡ Some c = rw t at e in absurd (none-some c u)
 
 -- what stands at j after a write at i is the new claim, or stood there before
 after_write : (m : List (Option Claim)) (i j : ℕ) (c d : Claim) → slice_index_or (slice_set m i (Some c)) j None ≡ Some d
@@ -67,8 +68,7 @@ place_laws = record {
       let g : get_or (slice_set m i (Some c)) (place_of (length m) d.key) None ≡ Some d = rw (length-set m i (Some c)) at h in
       after_write m i (place_of (length m) d.key) c d g;
   clears = λ m d h.
-      let e = none_at (length m) (place_of (length {A = Option Claim} (replicate (length m) None)) d.key) in
-      let z : ◌≡◌ {A = ℕ} 0 1 = cc in absurd (omega arith);
+      absurd (none-some d (sym (none_at (length m) (place_of (length {A = Option Claim} (replicate (length m) None)) d.key)) ∙ h));
 }
 
 -- an answer of two is one of them

@@ -18,7 +18,7 @@ pub struct Direct<'a> {
 impl<'a> Direct<'a> {
     /// The table of the claims that stand in the places.
     pub fn new(places: &'a mut [Option<Claim>]) -> Direct<'a>
-        ensures { result.places.now ≡ places.old }
+        ensures { ⟦<Direct<'a> as Table>⟧.model result ≡ places.old }
     {
         Direct { places }
     }

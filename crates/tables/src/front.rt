@@ -6,56 +6,27 @@ ghost use Rattle.tables.specs.Tables.{Layered, layered_ops};
 ghost use Rattle.tables.specs.Places.{place_ops};
 ghost use Rattle.tables.specs.Laws.{place_laws, layered_laws};
 
-use crate::{Claim, Table, places};
+use crate::held::Held;
+use crate::{Claim, Table};
 use games::Key;
-
-/// The places of a front.
-#[derive(Drop)]
-struct Own {
-    places: [Option<Claim>; 32],
-}
-
-impl Own {
-    fn new() -> Own
-        ensures { result.places ≡ replicate 32 None }
-    {
-        Own { places: [None; 32] }
-    }
-
-    fn ask(&self, key: Key) -> Option<Claim>
-        ensures { result ≡ place_ops.answer self.now.places key }
-    {
-        places::ask(&self.places, key)
-    }
-
-    fn put(&mut self, claim: Claim)
-        ensures { self.new.places ≡ place_ops.put self.old.places claim }
-    {
-        places::put(&mut self.places, claim)
-    }
-
-    fn clear(&mut self)
-        ensures { self.new.places ≡ place_ops.clear self.old.places }
-    {
-        places::clear(&mut self.places)
-    }
-}
 
 /// Keeps each claim in the table below and at a place of its own as well, and answers from its own places first.
 #[derive(Drop)]
 pub struct Front<T: Table> {
-    own: Own,
+    own: Held<32>,
     below: T,
 }
 
 impl<T: Table> Front<T> {
+    ghost use Rattle.tables.specs.Fronts.{below_of};
+
     /// A front whose own places are empty.
     pub fn new(below: T) -> Front<T>
-        ensures own { result.own.places ≡ replicate 32 None }
-        ensures below { result.below ≡ below }
+        ensures meaning { ⟦<Front<T> as Table>⟧.model result ≡ record { own = replicate 32 None; below = T.Table.model below } }
+        ensures below { below_of result ≡ below }
     {
         Front {
-            own: Own::new(),
+            own: Held::new(),
             below,
         }
     }
@@ -64,17 +35,14 @@ impl<T: Table> Front<T> {
 impl<T: Table> Table for Front<T> {
     ghost Model = { Layered (List (Option Claim)) T.Table.Model };
 
-    ghost model = { λ s. record { own = s.own.places; below = T.Table.model s.below } };
+    ghost model = { λ s. record { own = ⟦<Held<32> as Table>⟧.model s.own; below = T.Table.model s.below } };
 
     ghost ops = { layered_ops place_ops T.Table.ops };
 
     ghost laws = { layered_laws place_ops T.Table.ops place_laws T.Table.laws };
 
     fn ask(&self, key: Key) -> Option<Claim> {
-        match self.own.ask(key) {
-            Some(claim) => Some(claim),
-            None => self.below.ask(key),
-        }
+        self.own.ask(key).or_else(|| self.below.ask(key))
     }
 
     fn put(&mut self, claim: Claim) {

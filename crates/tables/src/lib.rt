@@ -12,6 +12,7 @@ pub mod claim;
 pub mod direct;
 pub mod empty;
 pub mod front;
+mod held;
 mod places;
 
 pub use claim::Claim;

@@ -22,11 +22,7 @@ pub fn ask(places: &[Option<Claim>], key: Key) -> Option<Claim>
     if places.is_empty() {
         return None;
     }
-    let there = places[place(key, places.len())];
-    match there {
-        Some(claim) if claim.key == key => Some(claim),
-        _ => None,
-    }
+    places[place(key, places.len())].filter(|claim| claim.key == key)
 }
 
 /// Puts a claim at its key's place.
@@ -42,7 +38,5 @@ pub fn put(places: &mut [Option<Claim>], claim: Claim)
 pub fn clear(places: &mut [Option<Claim>])
     ensures { places.new ≡ place_ops.clear places.old }
 {
-    for place in places.iter_mut() {
-        *place = None;
-    }
+    places.fill(None)
 }

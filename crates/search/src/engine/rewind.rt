@@ -1,9 +1,9 @@
 //! The way back to where a search began.
 
 ghost use Rattle.std.specs.Prelude.{◌≡◌, length};
-ghost use Rattle.search.specs.Steps.{Search};
-ghost use Rattle.search.specs.Promises.{backs, plays as plays_since, Home};
-ghost use Rattle.search.specs.Stacks.{searching, frames};
+ghost use Rattle.search.specs.Promises.{backs, plays as plays_since};
+ghost use Rattle.search.specs.Bounds.{search_of, HomeOf};
+ghost use Rattle.search.specs.Stacks.{frames};
 
 use crate::engine::Engine;
 use crate::frame::{Hand, Progress};
@@ -39,8 +39,7 @@ impl<G: Game, T: Table, P: Policy> Engine<G, T, P> {
     pub fn rewind(&mut self, stack: &SearchStack<'_, G::Score>, progress: &Progress<G::Score>)
         ensures game { G.Game.line self.new.game
             ≡ backs (plays_since progress.now.hand (length (frames stack.now))) (G.Game.line self.old.game) }
-        ensures home { Home G.Score.Lattice.scoring G.Score.Lattice.stands T.Table.ops
-            (searching G.Score.Lattice.stands G.Game.line T.Table.model P.Policy.model self.old stack.now progress.now)
+        ensures home { HomeOf G.Score.Lattice T.Table (search_of G.Game T.Table P.Policy self.old stack.now progress.now)
             (G.Game.line self.new.game) }
         ensures table { self.new.table ≡ self.old.table }
         ensures policy { self.new.policy ≡ self.old.policy }

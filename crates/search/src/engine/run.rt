@@ -1,9 +1,9 @@
 //! Runs of steps.
 
 ghost use Rattle.std.specs.Prelude.{◌≡◌};
-ghost use Rattle.search.specs.Steps.{rests, ran, done, entries};
-ghost use Rattle.search.specs.Promises.{RunKeeps};
-ghost use Rattle.search.specs.Stacks.{searching, frames};
+ghost use Rattle.search.specs.Steps.{rests};
+ghost use Rattle.search.specs.Bounds.{search_of, ran_of, done_of, RunKeepsOf};
+ghost use Rattle.search.specs.Stacks.{frames, job_of};
 
 use crate::engine::Engine;
 use crate::frame::{Hand, Progress};
@@ -31,17 +31,14 @@ impl<G: Game, T: Table, P: Policy> Engine<G, T, P> {
         progress: &mut Progress<G::Score>,
         steps: u32,
     ) -> u32
-        ensures state { searching G.Score.Lattice.stands G.Game.line T.Table.model P.Policy.model self.new stack.new progress.new
-            ≡ ran G.Score.Lattice.scoring G.Score.Lattice.stands T.Table.ops P.Policy.ops steps
-            (searching G.Score.Lattice.stands G.Game.line T.Table.model P.Policy.model self.old stack.old progress.old) }
-        ensures done { result ≡ done G.Score.Lattice.scoring G.Score.Lattice.stands T.Table.ops P.Policy.ops steps
-            (searching G.Score.Lattice.stands G.Game.line T.Table.model P.Policy.model self.old stack.old progress.old) }
-        ensures kept { RunKeeps G.Score.Lattice.scoring G.Score.Lattice.stands T.Table.ops steps
-            (entries G.Score.Lattice.scoring G.Score.Lattice.stands T.Table.ops P.Policy.ops steps
-            (searching G.Score.Lattice.stands G.Game.line T.Table.model P.Policy.model self.old stack.old progress.old))
-            (searching G.Score.Lattice.stands G.Game.line T.Table.model P.Policy.model self.old stack.old progress.old)
-            (searching G.Score.Lattice.stands G.Game.line T.Table.model P.Policy.model self.new stack.new progress.new) }
-        ensures job { stack.new.job ≡ stack.old.job }
+        ensures state { search_of G.Game T.Table P.Policy self.new stack.new progress.new
+            ≡ ran_of G.Score.Lattice T.Table P.Policy steps (search_of G.Game T.Table P.Policy self.old stack.old progress.old) }
+        ensures done { result ≡ done_of G.Score.Lattice T.Table P.Policy steps
+            (search_of G.Game T.Table P.Policy self.old stack.old progress.old) }
+        ensures kept { RunKeepsOf G.Score.Lattice T.Table P.Policy steps
+            (search_of G.Game T.Table P.Policy self.old stack.old progress.old)
+            (search_of G.Game T.Table P.Policy self.new stack.new progress.new) }
+        ensures job { job_of stack.new ≡ job_of stack.old }
     {
         for count in 0..steps {
             if is_finished(stack, progress) {

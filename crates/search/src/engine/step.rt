@@ -3,10 +3,11 @@
 ghost use Rattle.std.specs.Prelude.{◌≡◌};
 ghost use Rattle.lattice.specs.Scores.{standing};
 ghost use Rattle.lattice.specs.Windows.{scored};
-ghost use Rattle.games.specs.Trees.{key_of, score_of, side_of};
-ghost use Rattle.search.specs.Steps.{point, shut, claim as claim_of, claimed, noticed, closed, entering, absorbing, resuming, stepped};
-ghost use Rattle.search.specs.Promises.{StepKeeps};
-ghost use Rattle.search.specs.Stacks.{searching, frames, tail, all_framed};
+ghost use Rattle.games.specs.Trees.{key_of};
+ghost use Rattle.search.specs.declared.frame.Hand.TheVariants.{Enter, Holding, Nothing};
+ghost use Rattle.search.specs.Steps.{shut, claim as claim_of, claimed, noticed};
+ghost use Rattle.search.specs.Bounds.{search_of, closed_of, stepped_by_of, stepped_of, StepKeepsOf};
+ghost use Rattle.search.specs.Stacks.{frames, job_of, tail, all_framed};
 
 use crate::engine::Engine;
 use crate::frame::{Frame, Hand, Progress};
@@ -16,16 +17,6 @@ use lattice::Lattice;
 use lattice::bracket::Bracket;
 use policies::Policy;
 use tables::{Claim, Table};
-
-/// The bracket of one score.
-fn point<S: Lattice>(score: S) -> Bracket<S>
-    ensures { result ≡ point score }
-{
-    Bracket {
-        lo: score,
-        hi: score,
-    }
-}
 
 /// Whether nothing is left of a window to ask about.
 fn is_shut<S: Lattice>(window: Bracket<S>) -> bool
@@ -52,10 +43,8 @@ impl<G: Game, T: Table, P: Policy> Engine<G, T, P> {
             ≡ claimed G.Score.Lattice.scoring (scored G.Score.Lattice.stands window)
             (T.Table.ops.answer (T.Table.model self.now.table) (key_of (G.Game.line self.now.game).present)) }
     {
-        match self.table.ask(self.game.key()) {
-            Some(claim) => Bracket::read_deciding(claim.lo, claim.hi, window),
-            None => None,
-        }
+        let claim = self.table.ask(self.game.key())?;
+        Bracket::read_deciding(claim.lo, claim.hi, window)
     }
 
     /// Tells the policy of the child taken last, if there is one.
@@ -76,13 +65,12 @@ impl<G: Game, T: Table, P: Policy> Engine<G, T, P> {
         progress: &mut Progress<G::Score>,
         bracket: Bracket<G::Score>,
     )
-        ensures state { searching G.Score.Lattice.stands G.Game.line T.Table.model P.Policy.model self.new stack.new progress.new
-            ≡ closed G.Score.Lattice.scoring T.Table.ops
-            (searching G.Score.Lattice.stands G.Game.line T.Table.model P.Policy.model self.old stack.old progress.old)
+        ensures state { search_of G.Game T.Table P.Policy self.new stack.new progress.new
+            ≡ closed_of G.Score.Lattice T.Table (search_of G.Game T.Table P.Policy self.old stack.old progress.old)
             (P.Policy.model self.old.policy)
             (all_framed G.Score.Lattice.stands (tail (frames stack.old)))
             (scored G.Score.Lattice.stands bracket) }
-        ensures job { stack.new.job ≡ stack.old.job }
+        ensures job { job_of stack.new ≡ job_of stack.old }
     {
         self.table.put(claim(self.game.key(), bracket));
         stack.pop();
@@ -96,16 +84,13 @@ impl<G: Game, T: Table, P: Policy> Engine<G, T, P> {
         progress: &mut Progress<G::Score>,
         window: Bracket<G::Score>,
     )
-        ensures state { searching G.Score.Lattice.stands G.Game.line T.Table.model P.Policy.model self.now stack.new progress.new
-            ≡ entering G.Score.Lattice.scoring G.Score.Lattice.stands T.Table.ops
-            (searching G.Score.Lattice.stands G.Game.line T.Table.model P.Policy.model self.now stack.old progress.old)
-            (scored G.Score.Lattice.stands window)
-            (score_of (G.Game.line self.now.game).present)
-            (side_of (G.Game.line self.now.game).present) }
-        ensures job { stack.new.job ≡ stack.old.job }
+        ensures state { search_of G.Game T.Table P.Policy self.now stack.new progress.new
+            ≡ stepped_by_of G.Score.Lattice T.Table P.Policy (search_of G.Game T.Table P.Policy self.now stack.old progress.old)
+            (Enter (scored G.Score.Lattice.stands window)) }
+        ensures job { job_of stack.new ≡ job_of stack.old }
     {
         if let Some(score) = self.game.score() {
-            progress.enter(Hand::Holding(point(score)));
+            progress.enter(Hand::Holding(Bracket::point(score)));
         } else if let Some(side) = self.game.side() {
             if let Some(bracket) = self.known(window) {
                 progress.use_claim(Hand::Holding(bracket));
@@ -122,13 +107,10 @@ impl<G: Game, T: Table, P: Policy> Engine<G, T, P> {
         progress: &mut Progress<G::Score>,
         bracket: Bracket<G::Score>,
     )
-        ensures state { searching G.Score.Lattice.stands G.Game.line T.Table.model P.Policy.model self.new stack.new progress.new
-            ≡ absorbing G.Score.Lattice.scoring
-            (searching G.Score.Lattice.stands G.Game.line T.Table.model P.Policy.model self.old stack.old progress.old)
-            (scored G.Score.Lattice.stands bracket)
-            (all_framed G.Score.Lattice.stands (frames stack.old))
-            (G.Game.line self.old.game).earlier }
-        ensures job { stack.new.job ≡ stack.old.job }
+        ensures state { search_of G.Game T.Table P.Policy self.new stack.new progress.new
+            ≡ stepped_by_of G.Score.Lattice T.Table P.Policy (search_of G.Game T.Table P.Policy self.old stack.old progress.old)
+            (Holding (scored G.Score.Lattice.stands bracket)) }
+        ensures job { job_of stack.new ≡ job_of stack.old }
     {
         if let Some(frame) = stack.top() {
             if self.game.take_back() {
@@ -140,12 +122,9 @@ impl<G: Game, T: Table, P: Policy> Engine<G, T, P> {
 
     /// Goes on with the newest frame: closes it by a cut or with all its children taken, or plays the next child.
     fn resume(&mut self, stack: &mut SearchStack<'_, G::Score>, progress: &mut Progress<G::Score>)
-        ensures state { searching G.Score.Lattice.stands G.Game.line T.Table.model P.Policy.model self.new stack.new progress.new
-            ≡ resuming G.Score.Lattice.scoring T.Table.ops P.Policy.ops
-            (searching G.Score.Lattice.stands G.Game.line T.Table.model P.Policy.model self.old stack.old progress.old)
-            (all_framed G.Score.Lattice.stands (frames stack.old))
-            (side_of (G.Game.line self.old.game).present) }
-        ensures job { stack.new.job ≡ stack.old.job }
+        ensures state { search_of G.Game T.Table P.Policy self.new stack.new progress.new
+            ≡ stepped_by_of G.Score.Lattice T.Table P.Policy (search_of G.Game T.Table P.Policy self.old stack.old progress.old) Nothing }
+        ensures job { job_of stack.new ≡ job_of stack.old }
     {
         if let Some(frame) = stack.top() {
             if let Some(side) = self.game.side() {
@@ -171,14 +150,14 @@ impl<G: Game, T: Table, P: Policy> Engine<G, T, P> {
 
     /// Does one step of a search. In a state that no search comes to, nothing changes.
     pub fn step(&mut self, stack: &mut SearchStack<'_, G::Score>, progress: &mut Progress<G::Score>)
-        ensures state { searching G.Score.Lattice.stands G.Game.line T.Table.model P.Policy.model self.new stack.new progress.new
-            ≡ stepped G.Score.Lattice.scoring G.Score.Lattice.stands T.Table.ops P.Policy.ops
-            (searching G.Score.Lattice.stands G.Game.line T.Table.model P.Policy.model self.old stack.old progress.old) }
-        ensures kept { StepKeeps G.Score.Lattice.scoring G.Score.Lattice.stands T.Table.ops
-            (searching G.Score.Lattice.stands G.Game.line T.Table.model P.Policy.model self.old stack.old progress.old)
-            (searching G.Score.Lattice.stands G.Game.line T.Table.model P.Policy.model self.new stack.new progress.new) }
-        ensures job { stack.new.job ≡ stack.old.job }
+        ensures state { search_of G.Game T.Table P.Policy self.new stack.new progress.new
+            ≡ stepped_of G.Score.Lattice T.Table P.Policy (search_of G.Game T.Table P.Policy self.old stack.old progress.old) }
+        ensures kept { StepKeepsOf G.Score.Lattice T.Table
+            (search_of G.Game T.Table P.Policy self.old stack.old progress.old)
+            (search_of G.Game T.Table P.Policy self.new stack.new progress.new) }
+        ensures job { job_of stack.new ≡ job_of stack.old }
     {
+        // Stays a match: each kind of hand gives its step a value of its own, which a table of functions could not take.
         match progress.hand {
             Hand::Enter(window) => self.enter(stack, progress, window),
             Hand::Holding(bracket) => self.absorb(stack, progress, bracket),

@@ -1,26 +1,18 @@
 //! The open frames of a stack, the newest first.
 
-ghost use Rattle.std.specs.Prelude.{◌≡◌, ◌-◌, ◌^◌, ◌<◌, min, [], ◌∷◌, length, if◌then◌else◌, nat_lt, slice_index_or};
-ghost use Rattle.search.specs.Stacks.{frames, room, head, tail, with_head};
+ghost use Rattle.std.specs.Prelude.{◌≡◌, ◌-◌, ◌^◌, min, [], ◌∷◌, length, if◌then◌else◌, nat_lt};
+ghost use Rattle.search.specs.Stacks.{frames, room, job_of, head, tail, with_head};
 
 use crate::frame::Frame;
 use crate::stack::SearchStack;
 use lattice::Lattice;
-
-/// The frame at a place.
-fn at<S: Lattice>(places: &[Frame<S>], place: usize) -> Frame<S>
-    requires { place < length places.now }
-    ensures { result ≡ slice_index_or places.now place result }
-{
-    places[place]
-}
 
 impl<'a, S: Lattice> SearchStack<'a, S> {
     /// A free stack with no frame. It holds as many as there are places, but no more than 2^32 - 1.
     pub fn new(places: &'a mut [Frame<S>]) -> SearchStack<'a, S>
         ensures frames { frames result ≡ [] }
         ensures room { room result ≡ min (length places.old) (2 ^ 32 - 1) }
-        ensures job { result.job ≡ 0 }
+        ensures job { job_of result ≡ 0 }
     {
         SearchStack {
             places,
@@ -33,7 +25,7 @@ impl<'a, S: Lattice> SearchStack<'a, S> {
     pub fn depth(&self) -> u32
         ensures { result ≡ length (tail (frames self.now)) }
     {
-        if self.count == 0 { 0 } else { self.count - 1 }
+        self.count.saturating_sub(1)
     }
 
     /// The number of open frames.
@@ -47,19 +39,16 @@ impl<'a, S: Lattice> SearchStack<'a, S> {
     pub fn room(&self) -> u32
         ensures { result ≡ room self.now }
     {
-        if self.places.len() < u32::MAX as usize {
-            self.places.len() as u32
-        } else {
-            u32::MAX
-        }
+        u32::try_from(self.places.len()).unwrap_or(u32::MAX)
     }
 
     /// Opens a frame; false, and nothing changes, where there is no room.
+    // Stays a bool: there is one way to fail, and a frame is Copy, so that an error would have nothing to hand back.
     pub fn push(&mut self, frame: Frame<S>) -> bool
         ensures told { result ≡ nat_lt (length (frames self.old)) (room self.old) }
         ensures frames { frames self.new ≡ (if result then frame ∷ frames self.old else frames self.old) }
         ensures room { room self.new ≡ room self.old }
-        ensures job { self.new.job ≡ self.old.job }
+        ensures job { job_of self.new ≡ job_of self.old }
     {
         if self.count < self.room() {
             self.places[self.count as usize] = frame;
@@ -74,48 +63,43 @@ impl<'a, S: Lattice> SearchStack<'a, S> {
     pub fn top(&self) -> Option<Frame<S>>
         ensures { result ≡ head (frames self.now) }
     {
-        if self.count == 0 {
-            None
-        } else {
-            Some(at(self.places, (self.count - 1) as usize))
-        }
+        let last = self.count.checked_sub(1)?;
+        self.places.get(last as usize).copied()
     }
 
     /// Puts another frame in the place of the newest; nothing changes where there is none.
     pub fn replace(&mut self, frame: Frame<S>)
         ensures frames { frames self.new ≡ with_head (frames self.old) frame }
         ensures room { room self.new ≡ room self.old }
-        ensures job { self.new.job ≡ self.old.job }
+        ensures job { job_of self.new ≡ job_of self.old }
     {
-        if self.count > 0 {
-            let last = (self.count - 1) as usize;
-            self.places[last] = frame;
+        if let Some(last) = self.count.checked_sub(1) {
+            self.places[last as usize] = frame;
         }
     }
 
     /// Closes the newest frame.
+    #[tactic(auto, using(crate::proofs::Stacks::popped))]
     pub fn pop(&mut self)
         ensures frames { frames self.new ≡ tail (frames self.old) }
         ensures room { room self.new ≡ room self.old }
-        ensures job { self.new.job ≡ self.old.job }
+        ensures job { job_of self.new ≡ job_of self.old }
     {
-        if self.count > 0 {
-            self.count -= 1;
-        }
+        self.count = self.count.saturating_sub(1);
     }
 
     /// Closes every frame.
     pub fn clear(&mut self)
         ensures frames { frames self.new ≡ [] }
         ensures room { room self.new ≡ room self.old }
-        ensures job { self.new.job ≡ self.old.job }
+        ensures job { job_of self.new ≡ job_of self.old }
     {
         self.count = 0;
     }
 
     /// The job that the stack is marked with.
     pub fn job(&self) -> u64
-        ensures { result ≡ self.now.job }
+        ensures { result ≡ job_of self.now }
     {
         self.job
     }
@@ -124,7 +108,7 @@ impl<'a, S: Lattice> SearchStack<'a, S> {
     pub fn mark(&mut self, job: u64)
         ensures frames { frames self.new ≡ frames self.old }
         ensures room { room self.new ≡ room self.old }
-        ensures job { self.new.job ≡ job }
+        ensures job { job_of self.new ≡ job }
     {
         self.job = job;
     }
@@ -133,7 +117,7 @@ impl<'a, S: Lattice> SearchStack<'a, S> {
     pub fn free(&mut self)
         ensures frames { frames self.new ≡ [] }
         ensures room { room self.new ≡ room self.old }
-        ensures job { self.new.job ≡ 0 }
+        ensures job { job_of self.new ≡ 0 }
     {
         self.clear();
         self.job = 0;

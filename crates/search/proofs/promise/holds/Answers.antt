@@ -1,8 +1,5 @@
-use Rattle.lattice.proofs.Gathered.{laws_of}
-use Rattle.search.proofs.Finish.{promised}
+use Rattle.search.proofs.Finish.{promise_of}
 use Rattle.search.proofs.promise.holds.Goals as goal
 
 pub returns : goal.returns
-returns g c =
-    promised g.G.Score.Lattice.scoring g.G.Score.Lattice.stands g.T.Table.ops g.P.Policy.ops
-    (laws_of g.met.G.Score.Lattice) g.T.Table.laws g.P.Policy.laws
+returns g c = promise_of g.G.Score.Lattice g.T.Table g.P.Policy

@@ -1,9 +1,8 @@
 use Rattle.std.proofs.Common.{ℕ, sym, ap, ◌∙◌}
-use Rattle.lattice.proofs.Gathered.{laws_of}
 use Rattle.search.specs.Promises.{backs}
 use Rattle.search.specs.Stacks.{frames}
 use Rattle.search.proofs.Back.{plays_framed}
-use Rattle.search.proofs.Finish.{promised}
+use Rattle.search.proofs.Finish.{promise_of}
 use Rattle.search.proofs.engine.Engine.rewind.Goals as goal
 
 pub returns : goal.returns
@@ -17,8 +16,7 @@ returns g c =
       game = back;
       home = λ base w₀ inv.
           back ∙ sym (ap to (plays_framed g.G.Score.Lattice.stands h (frames k)))
-          ∙ (promised g.G.Score.Lattice.scoring g.G.Score.Lattice.stands g.T.Table.ops g.P.Policy.ops
-          (laws_of g.met.G.Score.Lattice) g.T.Table.laws g.P.Policy.laws).back base w₀ _ inv;
+          ∙ (promise_of g.G.Score.Lattice g.T.Table g.P.Policy).back base w₀ _ inv;
       table = c.take_back.ensures.table;
       policy = c.take_back.ensures.policy;
     }
