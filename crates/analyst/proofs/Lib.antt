@@ -4,4 +4,5 @@ pub mod Resting
 pub mod Searching
 pub mod Closing
 pub mod Sequences
+pub mod Bounds
 pub mod Own

@@ -94,17 +94,16 @@ module _ {S C M P : Type 0} where
     own = (λ v. matches m.underway (ej v) (ek v)) ∙ m.own;
   }
 
-  -- as the contract of begin tells it: t is the ticket, made by mk, and has the job i
-  pub begun_mine : {X : Type 0} (o : Scoring C) (a : State S C M P) (j : ℕ) (w : Bracket C) (k : Stack C) (mk t : X) (i : ℕ) → (mk ≡ t → i ≡ j)
-      → Ok t ≡ answered (λ y. mk) (begins o a j w k) → (b : State S C M P) (q : Stack C)
-      → b ≡ left (λ y. y.state) a (begins o a j w k) → q ≡ left (λ y. y.stack) k (begins o a j w k) → Mine b i q
-  begun_mine o a j w k mk t i ij e b q eb eq =
+  -- as the contract of begin tells it: its ticket is t
+  pub begun_mine : (o : Scoring C) (a : State S C M P) (j : ℕ) (w : Bracket C) (k : Stack C) (t : ℕ) → Ok t ≡ answered (λ _. j) (begins o a j w k)
+      → (b : State S C M P) (q : Stack C) → b ≡ left (λ y. y.state) a (begins o a j w k) → q ≡ left (λ y. y.stack) k (begins o a j w k) → Mine b t q
+  begun_mine o a j w k t e b q eb eq =
       let (y, ok, is) = accepted (begins o a j w k) e in
-      moved y.state b j i y.stack q (eb ∙ ap (left (λ y. y.state) a) ok) (ij is) (eq ∙ ap (left (λ y. y.stack) k) ok)
+      moved y.state b j t y.stack q (eb ∙ ap (left (λ y. y.state) a) ok) is (eq ∙ ap (left (λ y. y.stack) k) ok)
       (begun_own o a j w k y ok)
     where
-      accepted : (r : Result (AfterBegin S C M P) Refusal) → Ok t ≡ answered (λ y. mk) r → (y : AfterBegin S C M P) × (r ≡ Ok y) × (mk ≡ t)
-      accepted (Ok y) e = (y, refl, sym (same_ok e))
+      accepted : (r : Result (AfterBegin S C M P) Refusal) → Ok t ≡ answered (λ _. j) r → (y : AfterBegin S C M P) × (r ≡ Ok y) × (t ≡ j)
+      accepted (Ok y) e = (y, refl, same_ok e)
       accepted (Err r) e = absurd (not_ok (sym e))
 
   -- as the contract of run tells it

@@ -1,7 +1,6 @@
 -- The calls that need no ticket: make, load, play, take back and clear; and refused calls.
 use Rattle.std.proofs.Common.{◌≡◌, ℕ, ◌<◌, Bool, true, cond, List, [], ◌∷◌, Some, None, Ok, Option, sym, refl, ap, ◌∙◌, subst}
-use mathlib.Core.Bool.{false≢true}
-use Rattle.std.proofs.lemmas.Bool.{ltb-true}
+use Rattle.std.proofs.lemmas.Bool.{false≢true, ltb-true}
 use Rattle.lattice.specs.Scores.{Scoring}
 use Rattle.games.specs.Trees.{Tree, Line, Lawful, count, children_of, loaded, can_play, after_play, can_take_back, after_take_back}
 use Rattle.tables.specs.Tables.{TableOps, TableLaws}

@@ -1,6 +1,6 @@
 -- The calls of a search: begin, run and end.
 use Rattle.std.proofs.Common.{◌≡◌, ℕ, ◌+◌, ◌*◌, ◌<◌, ◌≤◌, Bool, true, false, cond, eqb, ltb, ◌⊎◌, List, [], ◌∷◌, length, Some, None, Ok, Option, sym, refl, ap, ◌∙◌, subst, ⊎_elim, arith}
-use Rattle.std.proofs.lemmas.Bool.{and_parts, and_from, eqb-true, eq-eqb, ltb-true}
+use Rattle.std.proofs.lemmas.Bool.{and_parts, and_from, eqb-true, eq-eqb, ltb-true, true_from_ne_false}
 use Rattle.lattice.specs.declared.bracket.Bracket.{Bracket}
 use Rattle.lattice.specs.Scores.{Scoring, Laws}
 use Rattle.lattice.specs.Windows.{clamped}
@@ -46,10 +46,6 @@ or_late false false h = refl
 not_yet : (f g : Bool) → (g ≡ true → f ≡ true) → f ≡ false → g ≡ false
 not_yet f true h e = sym (h refl) ∙ e
 not_yet f false h e = refl
-
-not_false : (f : Bool) → (f ≡ false → ⊥) → f ≡ true
-not_false true h = refl
-not_false false h = absurd (h refl)
 
 module _ {C : Type 0} where
   -- the stack of an accepted run or end is the one that the search keeps busy: a free one has job 0
@@ -188,7 +184,7 @@ module _ {S C M P : Type 0} (o : Scoring C) (st : S → C) (tb : TableOps M) (ch
             account = c;
             is = b.accounted;
             holds = record {
-              ends = λ v. not_false (finished z) (λ u. omega (arith, far u, to_do_some z));
+              ends = λ v. true_from_ne_false (finished z) (λ u. omega (arith, far u, to_do_some z));
               stays = g.stays;
               few = omega (arith, g.few, b.few);
               within = did.0;

@@ -58,6 +58,11 @@ module _ {C : Type 0} where
   none_open None = true
   none_open (Some s) = false
 
+  -- the job of the open search, or n where none is open
+  abbrev pub open_job : Option (Open C) → ℕ → ℕ
+  open_job None n = n
+  open_job (Some s) n = s.job
+
   -- whether the ticket j and the stack k are those of the search s, the stack as the last call left it
   abbrev pub matches : Open C → ℕ → Stack C → Bool
   matches s j k =

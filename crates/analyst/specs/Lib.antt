@@ -3,3 +3,4 @@ pub mod Calls
 pub mod Model
 pub mod Histories
 pub mod Promises
+pub mod Bounds

@@ -1,6 +1,6 @@
 //! What every sequence of calls is promised, whatever the game, the table and the policy.
 
-ghost use Rattle.analyst.specs.Promises.{Promise};
+ghost use Rattle.analyst.specs.Bounds.{PromiseOf};
 
 use games::Game;
 use lattice::Lattice;
@@ -12,5 +12,5 @@ use tables::Table;
 /// at most as many positions as that position's tree has, and is finished once four steps are granted for each of them;
 /// and every claim in the table is true.
 pub fn holds<G: Game, T: Table, P: Policy>()
-    ensures { Promise G.Game.line G.Score.Lattice.scoring G.Score.Lattice.stands T.Table.ops P.Policy.ops }
+    ensures { PromiseOf G.Score.Lattice G.Game T.Table P.Policy }
 {}

@@ -27,6 +27,7 @@ pub enum Refusal {
 
 impl Refusal {
     /// The number of the question.
+    // Stays a method: the number is promised by this name, and a From beside it would say it twice.
     pub fn number(self) -> u8
         ensures { result ≡ number_of self }
     {

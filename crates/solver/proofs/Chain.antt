@@ -1,8 +1,9 @@
 -- Begin, run and end on a fresh analyst, with its own ticket and stack: run and end are never refused.
-use Rattle.std.proofs.Common.{◌≡◌, ℕ, ◌<◌, Bool, true, false, cond, ltb, length, Ok, Err, Result, sym, refl, ap, ◌∙◌}
+use Rattle.std.proofs.Common.{◌≡◌, ℕ, ◌<◌, Bool, true, false, cond, ltb, length, Ok, Err, Result, IsOk, sym, refl, ap, ◌∙◌}
 use Rattle.std.proofs.lemmas.Bool.{and_from, eq-eqb, ltb-true}
 use Rattle.lattice.specs.declared.bracket.Bracket.{Bracket}
 use Rattle.lattice.specs.Scores.{Scoring, Laws}
+use Rattle.lattice.specs.Windows.{whole}
 use Rattle.games.specs.Trees.{Line, height_of}
 use Rattle.tables.specs.Tables.{TableOps}
 use Rattle.policies.specs.Policies.{PolicyOps}
@@ -10,14 +11,17 @@ use Rattle.search.specs.Promises.{began}
 use Rattle.search.specs.Steps.{Search, ran, done, entries}
 use Rattle.search.proofs.Room.{ran_room}
 use Rattle.analyst.specs.declared.analyst.Open.{Open}
+use Rattle.analyst.specs.declared.analyst.ticket.RefusedEnd.{RefusedEnd}
+use Rattle.analyst.specs.declared.ended.Ended.{Ended}
 use Rattle.analyst.specs.declared.ended.Ran.{Ran}
+use Rattle.analyst.specs.Model.{end_told}
 use Rattle.analyst.specs.declared.refusal.Refusal.{Refusal}
 use Rattle.analyst.specs.declared.refusal.Refusal.TheVariants.{JobNotNew, WindowNotOrdered, StackNotFree, StackTooSmall}
 use Rattle.analyst.specs.Calls.{State, Stack, free_stack, is_free, marked, opening, matches, makes, AfterBegin, AfterRun, begun, begins, stopped, runs, closed, ends, answered, left}
 use Rattle.analyst.proofs.Results.{same_ok, not_ok, yes_first, said_yes}
 use Rattle.analyst.proofs.Searching.{free_is}
 use Rattle.solver.specs.declared.once.Solved.{Solved}
-use Rattle.solver.specs.Solving.{whole, finds, solves}
+use Rattle.solver.specs.Solving.{finds, solves}
 
 module _ {A B E : Type 0} where
   -- an answered call was accepted
@@ -29,6 +33,11 @@ module _ {A B E : Type 0} where
   pub was_err : (f : A → B) (r : Result A E) (x : E) → answered f r ≡ Err x → r ≡ Err x
   was_err f (Ok y) x e = absurd (not_ok (sym e))
   was_err f (Err z) x e = cc
+
+-- an end that answers as an accepted one does is accepted
+pub ok_is : {S C : Type 0} (st : S → C) (r : Result (Ended S) RefusedEnd) (e : Ended C) → end_told st r ≡ Ok e → IsOk r
+ok_is st (Ok y) e is = refl
+ok_is st (Err x) e is = absurd (not_ok is)
 
 -- f of what a question lets through
 answered_asked : {A B E : Type 0} (f : A → B) (t : Bool) (r : Result A E) (x : E) → answered f (cond t r (Err x)) ≡ cond t (answered f r) (Err x)
@@ -105,27 +114,27 @@ module _ {S C M P : Type 0} (o : Scoring C) (st : S → C) (tb : TableOps M) (ch
         high = ltb-true (height_of l.present) k.places high;
       }
 
-  -- all three, as their contracts tell of them: the ticket t has the job i
+  -- all three, as their contracts tell of them: the ticket is i
   pub record Done (k : Stack C) (r : Ran) (a : State S C M P) (k' : Stack C) (i : ℕ) : Type 0 where
     pub ran_is : r ≡ (stop k.places).answer
     pub ends_is : ends o a i k' ≡ Ok (closed o (stop k.places).state (kept k.places) (stop k.places).stack)
     pub high : height_of l.present < k.places
     pub solves_is : solves o st tb ch l m p j k n ≡ Ok (finds o st tb ch l m p k.places n)
 
-  pub chain : {X : Type 0} → Laws o → (mk t : X) (i : ℕ) (k : Stack C) (a₀ : State S C M P) (w : Bracket C) → a₀ ≡ makes tb l m p → w ≡ whole o
-      → Ok t ≡ answered (λ y. mk) (begins o a₀ j w k) → (mk ≡ t → i ≡ j)
+  pub chain : Laws o → (i : ℕ) (k : Stack C) (a₀ : State S C M P) (w : Bracket C) → a₀ ≡ makes tb l m p → w ≡ whole o
+      → Ok i ≡ answered (λ _. j) (begins o a₀ j w k)
       → (a₁ : State S C M P) (k₁ : Stack C) → a₁ ≡ left (λ y. y.state) a₀ (begins o a₀ j w k) → k₁ ≡ left (λ y. y.stack) k (begins o a₀ j w k)
       → (r : Ran) → Ok r ≡ answered (λ y. y.answer) (runs o st tb ch a₁ i k₁ n)
       → (a₂ : State S C M P) (k₂ : Stack C) → a₂ ≡ left (λ y. y.state) a₁ (runs o st tb ch a₁ i k₁ n) → k₂ ≡ left (λ y. y.stack) k₁ (runs o st tb ch a₁ i k₁ n)
       → Done k r a₂ k₂ i
-  chain law mk t i k a₀ w ea ew eb ij a₁ k₁ sa sk r er a₂ k₂ za zk =
-      let (y, ok, is) = was_ok (λ y. mk) (begins o a₀ j w k) t (sym eb) in
+  chain law i k a₀ w ea ew eb a₁ k₁ sa sk r er a₂ k₂ za zk =
+      let (y, ok, is) = was_ok (λ y. j) (begins o a₀ j w k) i (sym eb) in
       let same : begins o a₀ j w k ≡ begins o (makes tb l m p) j (whole o) k = λ v. begins o (ea v) j (ew v) k in
       let f = begin_ok k y (sym same ∙ ok) in
       let q : ℕ = k.places in
       let ta : a₁ ≡ (first q).state = sa ∙ ap (left (λ y. y.state) a₀) ok ∙ f.state in
       let tk : k₁ ≡ (first q).stack = sk ∙ ap (left (λ y. y.stack) k) ok ∙ f.stack in
-      let tj : i ≡ j = ij is in
+      let tj : i ≡ j = sym is in
       let went : runs o st tb ch a₁ i k₁ n ≡ Ok (stop q) = (λ v. runs o st tb ch (ta v) (tj v) (tk v) n) ∙ run_ok q in
       let ua : a₂ ≡ (stop q).state = za ∙ ap (left (λ y. y.state) a₁) went in
       let uk : k₂ ≡ (stop q).stack = zk ∙ ap (left (λ y. y.stack) k₁) went in

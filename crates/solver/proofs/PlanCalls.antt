@@ -8,22 +8,25 @@ use Rattle.lattice.specs.FamilyLaws.{family_laws}
 use Rattle.games.specs.Trees.{Tree, Line, Lawful, plain, can_play}
 use Rattle.tables.specs.Tables.{TableOps, TableLaws}
 use Rattle.policies.specs.Policies.{PolicyOps, PolicyLaws}
+use Rattle.lines.specs.declared.deal.Target.{Target}
 use Rattle.cardplay.specs.Cards.{position}
 use Rattle.cardplay.specs.PlanScores.{plan_family}
 use Rattle.cardplay.proofs.OnePlan.{plan_theorem}
-use Rattle.deals.specs.declared.plan_game.PlanGame.{PlanGame}
+use Rattle.deals.specs.declared.card_game.CardGame.{CardGame}
 use Rattle.deals.specs.Plans.{Beaten}
 use Rattle.deals.specs.Scores.{sets_made}
-use Rattle.deals.specs.Laws.{course_lawful}
+use Rattle.deals.specs.Games.{game_lawful}
+use Rattle.deals.specs.PlanGames.{plan_line}
 use Rattle.deals.proofs.Values.{plan_value}
 use Rattle.analyst.specs.declared.ended.Ran.{Ran}
 use Rattle.analyst.specs.declared.refusal.Refusal.{Refusal}
 use Rattle.analyst.specs.Calls.{loads, plays, takes_back, begins, runs, ends, none_open}
 use Rattle.analyst.specs.Histories.{Account, some_with_run, Standing, line_at, account_at, told, History, made, load, play, take_back, begin, run, end, clear}
-use Rattle.analyst.proofs.Results.{by_result, yes_first, some_same, none_some}
+use Rattle.std.proofs.lemmas.Option.{none-some}
+use Rattle.analyst.proofs.Results.{by_result, yes_first, some_same}
 use Rattle.analyst.proofs.Resting.{at_rest}
 use Rattle.analyst.proofs.Sequences.{sound, promised}
-use Rattle.solver.specs.PlanCalls.{plan_line, PlanPromise}
+use Rattle.solver.specs.PlanCalls.{PlanPromise}
 use Rattle.solver.proofs.PlanLines.{Planned, planned_game, planned_position, planned_play, planned_back}
 use Rattle.solver.proofs.Right.{clamped_whole}
 
@@ -45,11 +48,11 @@ more_run n r e (Some c) a = a
 -- an answer with a value has it from the condition
 had : {C : Type 0} (b : Bool) (u v : C) → ◌≡◌ {A = Option C} (cond b (Some u) None) (Some v) → u ≡ v
 had true u v e = some_same e
-had false u v e = absurd (none_some e)
+had false u v e = absurd (none-some v e)
 
 module _ {M P : Type 0} (tb : TableOps M) (ch : PolicyOps P) (tl : TableLaws tb) (pl : PolicyLaws ch) where
-  lawful : (g : PlanGame) → Lawful (plan_line g)
-  lawful g = course_lawful (sets_made g.target) g.course
+  lawful : (g : CardGame Target) → Lawful (plan_line g)
+  lawful g = game_lawful (λ t. sets_made t.0) g
 
   pub record Follows (x : Standing Family FamilyScore M P) : Type 0 where
     pub line : Planned (line_at x)

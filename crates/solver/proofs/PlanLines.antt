@@ -3,20 +3,22 @@ use Rattle.std.proofs.Common.{◌≡◌, ℕ, ◌<◌, Bool, true, cond, List, [
 use Rattle.std.proofs.lemmas.Bool.{ltb-true}
 use Rattle.lattice.specs.declared.family.Family.{Family}
 use Rattle.games.specs.Trees.{Line, can_play, after_play, after_take_back}
+use Rattle.lines.specs.declared.deal.Target.{Target}
 use Rattle.cardplay.specs.Cards.{Dealt, Play, legal_cards}
 use Rattle.cardplay.specs.Deals.{ValidDeal, Played}
 use Rattle.cardplay.proofs.CardLaws.{played_reached}
-use Rattle.deals.specs.declared.plan_game.PlanGame.{PlanGame}
+use Rattle.deals.specs.declared.card_game.CardGame.{CardGame}
 use Rattle.deals.specs.Dealing.{dealt_of}
+use Rattle.deals.specs.PlanGames.{plan_line}
 use Rattle.deals.specs.Scores.{sets_made}
 use Rattle.deals.specs.Stands.{Stand, stand_of, choices, can_go_on, after_legal, after_place, line_of}
-use Rattle.deals.specs.States.{play_of, earlier_plays}
+use Rattle.deals.specs.States.{play_of}
 use Rattle.deals.proofs.Choices.{legal_at}
 use Rattle.deals.specs.CoursesLemmas.{valid}
 use Rattle.deals.proofs.Lines.{line_told, line_goes}
 use Rattle.deals.specs.Whole.{whole_deal, whole_course}
 use Rattle.analyst.specs.Histories.{child_first}
-use Rattle.solver.specs.PlanCalls.{plan_line, PlanPosition}
+use Rattle.solver.specs.PlanCalls.{PlanPosition}
 
 -- the line of a plan game's play
 pub record Planned (l : Line Family) : Type 0 where
@@ -26,15 +28,15 @@ pub record Planned (l : Line Family) : Type 0 where
   pub deal : ValidDeal stand.deal
   pub played : Played stand.deal stand.present stand.earlier
 
-pub planned_game : (g : PlanGame) → Planned (plan_line g)
+pub planned_game : (g : CardGame Target) → Planned (plan_line g)
 planned_game g =
     let d = dealt_of g.course.problem in
     record {
       stand = stand_of g.course;
-      target = g.target;
+      target = g.aim.0;
       is = refl;
       deal = whole_deal d (valid g.course.problem);
-      played = whole_course d (play_of g.course.present) (earlier_plays g.course.past g.course.count) g.course.legal;
+      played = whole_course d (play_of g.course.present) g.course.past g.course.legal;
     }
 
 pub planned_position : (l : Line Family) (y : Planned l) → PlanPosition l.present y.stand y.target

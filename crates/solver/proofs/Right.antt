@@ -1,21 +1,33 @@
 -- What a search of a fresh analyst finds is right for its position.
-use Rattle.std.proofs.Common.{◌≡◌, ℕ, ◌<◌, cond, Some, None, refl, ap, ◌∙◌}
+use Rattle.std.proofs.Common.{◌≡◌, ℕ, ◌<◌, cond, List, [], ◌∷◌, Some, None, sym, refl, ◌∙◌}
+use Rattle.std.specs.Option.{is_some}
 use Rattle.lattice.specs.declared.bracket.Bracket.{Bracket}
 use Rattle.lattice.specs.Scores.{Scoring, Laws}
-use Rattle.lattice.specs.Windows.{clamped}
+use Rattle.lattice.specs.Windows.{clamped, whole}
 use Rattle.games.specs.Trees.{Line, Lawful, height_of, plain, loaded}
 use Rattle.tables.specs.Tables.{TableOps, TableLaws}
 use Rattle.policies.specs.Policies.{PolicyOps, PolicyLaws}
 use Rattle.search.specs.Invariant.{Honest}
+use Rattle.search.specs.declared.frame.Frame.{Frame}
+use Rattle.search.specs.declared.frame.Hand.{Hand}
+use Rattle.search.specs.declared.frame.Hand.TheVariants.{Enter, Holding, Nothing}
 use Rattle.search.specs.Promises.{began}
-use Rattle.search.specs.Steps.{Search, finished, ran, entries}
+use Rattle.search.specs.Steps.{Search, rests, finished, ran, entries}
 use Rattle.search.proofs.Finish.{promised}
+use Rattle.analyst.specs.Calls.{value_of}
 use Rattle.analyst.proofs.Searching.{value_right}
-use Rattle.solver.specs.Solving.{whole, finds, SolvedRight}
+use Rattle.solver.specs.Solving.{is_finished, finds, SolvedRight}
 
 -- the whole window shows every score as it is
 pub clamped_whole : {C : Type 0} (o : Scoring C) → Laws o → (v : C) → clamped o (whole o) v ≡ v
 clamped_whole o law v = law.bottom_neutral (o.meet v o.top) ∙ law.meet_commutes v o.top ∙ law.top_neutral v
+
+-- a value is told exactly if the search is finished
+value_told : {C : Type 0} (o : Scoring C) (w : Bracket C) (fs : List (Frame C)) (h : Hand C) → is_some (value_of o w fs h) ≡ rests fs h
+value_told o w [] (Enter v) = refl
+value_told o w [] (Holding b) = refl
+value_told o w [] Nothing = refl
+value_told o w (f ∷ fs) h = refl
 
 module _ {S C M P : Type 0} (o : Scoring C) (st : S → C) (tb : TableOps M) (ch : PolicyOps P)
     (law : Laws o) (tl : TableLaws tb) (pl : PolicyLaws ch) where
@@ -30,14 +42,15 @@ module _ {S C M P : Type 0} (o : Scoring C) (st : S → C) (tb : TableOps M) (ch
       let s = all.search l w (tb.clear m) p places n ok honest room in
       let g = all.run n x l w ok (record { underway = (refl, refl, refl); room = room; honest = honest }) in
       let did = all.steps n x in
+      let same : is_finished (finds o st tb ch l m p places n) ≡ finished z = value_told o w z.frames z.hand in
       record {
         value =
             value_right o st tb ch law tl pl l w z g.keeps z.frames z.hand refl refl
-            ∙ ap (λ (v : C). cond (finished z) (Some v) None) (clamped_whole o law (plain o st l.present));
-        ends = s.ends;
+            ∙ (λ i. cond (sym same i) (Some (clamped_whole o law (plain o st l.present) i)) None);
+        ends = λ e. same ∙ s.ends e;
         entries = entries o st tb ch n x;
         few = s.few;
         told = s.told;
         within = did.0;
-        all = did.1;
+        all = λ e. did.1 (sym same ∙ e);
       }

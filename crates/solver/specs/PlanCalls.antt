@@ -1,23 +1,19 @@
 -- What the value of a search of the plan game says of plans, after any sequence of calls.
 use Rattle.std.specs.Prelude.{◌≡◌, ℕ, Some, Ok}
 use Rattle.lattice.specs.declared.family.Family.{Family}
+use Rattle.lattice.specs.Windows.{whole}
 use Rattle.lattice.specs.FamilyScores.{FamilyScore, family_scoring, family_of}
-use Rattle.games.specs.Trees.{Tree, Line}
+use Rattle.games.specs.Trees.{Tree}
 use Rattle.tables.specs.Tables.{TableOps}
 use Rattle.policies.specs.Policies.{PolicyOps}
 use Rattle.cardplay.specs.Cards.{position}
 use Rattle.cardplay.specs.Deals.{ValidDeal, Reached}
-use Rattle.deals.specs.declared.plan_game.PlanGame.{PlanGame}
+use Rattle.deals.specs.PlanGames.{plan_line}
 use Rattle.deals.specs.Plans.{Beaten}
 use Rattle.deals.specs.Scores.{sets_made}
-use Rattle.deals.specs.Stands.{Stand, stand_of, line_of}
+use Rattle.deals.specs.Stands.{Stand}
 use Rattle.analyst.specs.Calls.{Stack, AfterEnd, ends}
 use Rattle.analyst.specs.Histories.{Account, Standing, account_at, Own, History}
-use Rattle.solver.specs.Solving.{whole}
-
--- the line of positions of a plan game
-abbrev pub plan_line : PlanGame → Line Family
-plan_line g = line_of (sets_made g.target) (stand_of g.course)
 
 -- t is the position of the state of play s in the plan game with this target, and legal cards of a valid deal led to s
 pub record PlanPosition (t : Tree Family) (s : Stand) (target : ℕ) : Type 0 where

@@ -1,9 +1,8 @@
 //! A search of a game from beginning to end.
 
 ghost use Rattle.std.specs.Prelude.{◌≡◌};
-ghost use Rattle.lattice.specs.Windows.{scored};
-ghost use Rattle.analyst.specs.Model.{stack_of};
-ghost use Rattle.solver.specs.Solving.{whole as whole_window, solves, solved_of, SolvesRight};
+ghost use Rattle.solver.specs.Solving.{is_finished, solved_of};
+ghost use Rattle.solver.specs.Bounds.{solves_of, SolvesRightOf};
 
 use analyst::{Analyst, Ended, Ran, Refusal};
 use games::Game;
@@ -13,37 +12,29 @@ use policies::Policy;
 use search::SearchStack;
 use tables::Table;
 
-/// What a search found: the steps that it did, whether it is finished, the positions that it entered and the claims that
-/// it used, each told up to 2^64 - 1, and the value if it is finished.
+/// What a search found: the steps that it did, and what its end answered. The value there is told if it is finished.
 #[derive(Clone, Copy)]
 pub struct Solved<S: Lattice> {
     pub steps: u32,
-    pub finished: bool,
-    pub entered: u64,
-    pub used: u64,
-    pub value: Option<S>,
+    pub ended: Ended<S>,
 }
 
-/// The window that shows every score as it is.
-pub fn whole<S: Lattice>() -> Bracket<S>
-    ensures { scored S.Lattice.stands result ≡ whole_window S.Lattice.scoring }
-{
-    Bracket {
-        lo: S::bottom(),
-        hi: S::top(),
+impl<S: Lattice> Solved<S> {
+    /// Whether the search is finished.
+    pub fn is_finished(&self) -> bool
+        ensures { result ≡ is_finished self.now }
+    {
+        self.ended.value.is_some()
     }
 }
 
 /// What there is to tell of a search.
 fn told<S: Lattice>(ran: Ran, ended: Ended<S>) -> Solved<S>
-    ensures { result ≡ record { steps = ran.steps; finished = ran.finished; entered = ended.entered; used = ended.used; value = ended.value } }
+    ensures { result ≡ record { steps = ran.steps; ended = ended } }
 {
     Solved {
         steps: ran.steps,
-        finished: ran.finished,
-        entered: ended.entered,
-        used: ended.used,
-        value: ended.value,
+        ended,
     }
 }
 
@@ -60,17 +51,12 @@ pub fn solve<G: Game + Drop, T: Table + Drop, P: Policy + Drop>(
     stack: &mut SearchStack<'_, G::Score>,
     steps: u32,
 ) -> Result<Solved<G::Score>, Refusal>
-    ensures answer { solved_of G.Score.Lattice.stands result ≡ solves G.Score.Lattice.scoring G.Score.Lattice.stands T.Table.ops P.Policy.ops
-        (G.Game.line game) (T.Table.model table) (P.Policy.model policy) job (stack_of G.Score.Lattice.stands stack.old) steps }
-    ensures right { SolvesRight G.Score.Lattice.scoring G.Score.Lattice.stands (G.Game.line game).present steps (solved_of G.Score.Lattice.stands result) }
+    ensures answer { solved_of G.Score.Lattice.stands result ≡ solves_of G.Game T.Table P.Policy game table policy job stack.old steps }
+    ensures right { SolvesRightOf G.Score.Lattice G.Game game steps result }
 {
     let mut analyst = Analyst::new(game, table, policy);
-    let ticket = analyst.begin(job, whole(), stack)?;
-    let Ok(ran) = analyst.run(&ticket, stack, steps) else {
-        unreachable()
-    };
-    match analyst.end(ticket, stack) {
-        Ok(ended) => Ok(told(ran, ended)),
-        Err(_) => unreachable(),
-    }
+    let ticket = analyst.begin(job, Bracket::whole(), stack)?;
+    let ran = analyst.run(&ticket, stack, steps).unwrap();
+    let ended = analyst.end(ticket, stack).unwrap();
+    Ok(told(ran, ended))
 }

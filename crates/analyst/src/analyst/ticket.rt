@@ -1,13 +1,11 @@
 //! Tickets, and the three calls that they are for. Nothing else stands in this module, so nothing else makes a ticket.
 
 ghost use Rattle.std.specs.Prelude.{◌≡◌};
-ghost use Rattle.lattice.specs.Windows.{scored};
-ghost use Rattle.analyst.specs.Calls.{begins, runs, ends, answered, left};
+ghost use Rattle.analyst.specs.Calls.{answered, left};
 ghost use Rattle.analyst.specs.Model.{state_of, stack_of, end_told, handed_back};
-ghost use Rattle.analyst.specs.Promises.{RunsRight, EndsRight};
+ghost use Rattle.analyst.specs.Bounds.{begin_of, run_of, end_of, RunsRightOf, EndsRightOf};
 
 use crate::analyst::kept::is_free;
-use crate::analyst::work::{advance, stop};
 use crate::analyst::{Analyst, Open};
 use crate::ended::{Ended, Ran};
 use crate::refusal::Refusal;
@@ -16,12 +14,22 @@ use lattice::Lattice;
 use lattice::bracket::Bracket;
 use policies::Policy;
 use search::SearchStack;
+use search::engine::run::is_finished;
+use std::marker::Model;
 use tables::Table;
 
 /// The ticket of an open search. Begin gives it, run borrows it, and end takes it; it cannot be copied, and a program
-/// that lets it go without handing it to end is refused.
+/// that lets it go without handing it to end is refused. It means its job.
 pub struct Ticket {
     job: u64,
+}
+
+impl Model for Ticket {
+    ghost use Rattle.std.specs.Prelude.{ℕ};
+
+    ghost Value = { ℕ };
+
+    ghost view = { λ t. t.job };
 }
 
 /// A refused end: why, and the ticket, which is handed back.
@@ -41,14 +49,9 @@ impl<G: Game + Drop, T: Table, P: Policy> Analyst<G, T, P> {
         window: Bracket<G::Score>,
         stack: &mut SearchStack<'_, G::Score>,
     ) -> Result<Ticket, Refusal>
-        ensures answer { result ≡ answered (λ _. record { job = job }) (begins G.Score.Lattice.scoring
-            (state_of G.Score.Lattice.stands G.Game.line T.Table.model P.Policy.model self.old) job (scored G.Score.Lattice.stands window) (stack_of G.Score.Lattice.stands stack.old)) }
-        ensures leaves { state_of G.Score.Lattice.stands G.Game.line T.Table.model P.Policy.model self.new
-            ≡ left (λ y. y.state) (state_of G.Score.Lattice.stands G.Game.line T.Table.model P.Policy.model self.old) (begins G.Score.Lattice.scoring
-            (state_of G.Score.Lattice.stands G.Game.line T.Table.model P.Policy.model self.old) job (scored G.Score.Lattice.stands window) (stack_of G.Score.Lattice.stands stack.old)) }
-        ensures stack { stack_of G.Score.Lattice.stands stack.new
-            ≡ left (λ y. y.stack) (stack_of G.Score.Lattice.stands stack.old) (begins G.Score.Lattice.scoring
-            (state_of G.Score.Lattice.stands G.Game.line T.Table.model P.Policy.model self.old) job (scored G.Score.Lattice.stands window) (stack_of G.Score.Lattice.stands stack.old)) }
+        ensures answer { result ≡ answered (λ _. job) (begin_of self.old job window stack.old) }
+        ensures leaves { state_of self.new ≡ left (λ y. y.state) (state_of self.old) (begin_of self.old job window stack.old) }
+        ensures stack { stack_of stack.new ≡ left (λ y. y.stack) (stack_of stack.old) (begin_of self.old job window stack.old) }
     {
         self.at_rest()?;
         if job <= self.jobs {
@@ -69,29 +72,29 @@ impl<G: Game + Drop, T: Table, P: Policy> Analyst<G, T, P> {
         Ok(Ticket { job })
     }
 
-    /// Goes on with the open search, if the job and the stack are its own.
+    /// Goes on with the open search, if the ticket and the stack are its own.
+    #[tactic(auto, using(crate::proofs::Closing::as_many))]
     fn go_on(
         &mut self,
-        job: u64,
+        ticket: &Ticket,
         stack: &mut SearchStack<'_, G::Score>,
         steps: u32,
     ) -> Result<Ran, Refusal>
-        ensures answer { result ≡ answered (λ y. y.answer) (runs G.Score.Lattice.scoring G.Score.Lattice.stands T.Table.ops P.Policy.ops
-            (state_of G.Score.Lattice.stands G.Game.line T.Table.model P.Policy.model self.old) job (stack_of G.Score.Lattice.stands stack.old) steps) }
-        ensures leaves { state_of G.Score.Lattice.stands G.Game.line T.Table.model P.Policy.model self.new
-            ≡ left (λ y. y.state) (state_of G.Score.Lattice.stands G.Game.line T.Table.model P.Policy.model self.old) (runs G.Score.Lattice.scoring G.Score.Lattice.stands T.Table.ops P.Policy.ops
-            (state_of G.Score.Lattice.stands G.Game.line T.Table.model P.Policy.model self.old) job (stack_of G.Score.Lattice.stands stack.old) steps) }
-        ensures stack { stack_of G.Score.Lattice.stands stack.new
-            ≡ left (λ y. y.stack) (stack_of G.Score.Lattice.stands stack.old) (runs G.Score.Lattice.scoring G.Score.Lattice.stands T.Table.ops P.Policy.ops
-            (state_of G.Score.Lattice.stands G.Game.line T.Table.model P.Policy.model self.old) job (stack_of G.Score.Lattice.stands stack.old) steps) }
+        ensures answer { result ≡ answered (λ y. y.answer) (run_of self.old ticket.now stack.old steps) }
+        ensures leaves { state_of self.new ≡ left (λ y. y.state) (state_of self.old) (run_of self.old ticket.now stack.old steps) }
+        ensures stack { stack_of stack.new ≡ left (λ y. y.stack) (stack_of stack.old) (run_of self.old ticket.now stack.old steps) }
     {
-        let Some(open) = &mut self.search else {
-            return Err(Refusal::NotThisSearch);
-        };
-        if !open.matches(job, stack) {
-            return Err(Refusal::NotThisSearch);
+        match &mut self.search {
+            Some(open) if open.matches(ticket.job, stack) => {
+                let steps = self.engine.run(stack, &mut open.progress, steps);
+                open.depth = stack.len();
+                Ok(Ran {
+                    steps,
+                    finished: is_finished(stack, &open.progress),
+                })
+            }
+            _ => Err(Refusal::NotThisSearch),
         }
-        Ok(advance(&mut self.engine, open, stack, steps))
     }
 
     /// Does up to so many steps of the search that has the ticket and the stack, fewer where it is finished before.
@@ -105,44 +108,35 @@ impl<G: Game + Drop, T: Table, P: Policy> Analyst<G, T, P> {
         stack: &mut SearchStack<'_, G::Score>,
         steps: u32,
     ) -> Result<Ran, Refusal>
-        ensures answer { result ≡ answered (λ y. y.answer) (runs G.Score.Lattice.scoring G.Score.Lattice.stands T.Table.ops P.Policy.ops
-            (state_of G.Score.Lattice.stands G.Game.line T.Table.model P.Policy.model self.old) ticket.now.job (stack_of G.Score.Lattice.stands stack.old) steps) }
-        ensures leaves { state_of G.Score.Lattice.stands G.Game.line T.Table.model P.Policy.model self.new
-            ≡ left (λ y. y.state) (state_of G.Score.Lattice.stands G.Game.line T.Table.model P.Policy.model self.old) (runs G.Score.Lattice.scoring G.Score.Lattice.stands T.Table.ops P.Policy.ops
-            (state_of G.Score.Lattice.stands G.Game.line T.Table.model P.Policy.model self.old) ticket.now.job (stack_of G.Score.Lattice.stands stack.old) steps) }
-        ensures stack { stack_of G.Score.Lattice.stands stack.new
-            ≡ left (λ y. y.stack) (stack_of G.Score.Lattice.stands stack.old) (runs G.Score.Lattice.scoring G.Score.Lattice.stands T.Table.ops P.Policy.ops
-            (state_of G.Score.Lattice.stands G.Game.line T.Table.model P.Policy.model self.old) ticket.now.job (stack_of G.Score.Lattice.stands stack.old) steps) }
-        ensures right { RunsRight G.Game.line G.Score.Lattice.scoring G.Score.Lattice.stands T.Table.ops P.Policy.ops
-            (state_of G.Score.Lattice.stands G.Game.line T.Table.model P.Policy.model self.old) ticket.now.job (stack_of G.Score.Lattice.stands stack.old) steps result }
+        ensures answer { result ≡ answered (λ y. y.answer) (run_of self.old ticket.now stack.old steps) }
+        ensures leaves { state_of self.new ≡ left (λ y. y.state) (state_of self.old) (run_of self.old ticket.now stack.old steps) }
+        ensures stack { stack_of stack.new ≡ left (λ y. y.stack) (stack_of stack.old) (run_of self.old ticket.now stack.old steps) }
+        ensures right { RunsRightOf self.old ticket.now stack.old steps result }
     {
-        self.go_on(ticket.job, stack, steps)
+        self.go_on(ticket, stack, steps)
     }
 
-    /// Closes the open search, if the job and the stack are its own.
+    /// Closes the open search, if the ticket and the stack are its own.
+    #[tactic(auto, using(crate::proofs::Closing::plays_told))]
     fn close(
         &mut self,
-        job: u64,
+        ticket: &Ticket,
         stack: &mut SearchStack<'_, G::Score>,
     ) -> Result<Ended<G::Score>, Refusal>
-        ensures answer { end_told G.Score.Lattice.stands result ≡ answered (λ y. y.answer) (ends G.Score.Lattice.scoring
-            (state_of G.Score.Lattice.stands G.Game.line T.Table.model P.Policy.model self.old) job (stack_of G.Score.Lattice.stands stack.old)) }
-        ensures leaves { state_of G.Score.Lattice.stands G.Game.line T.Table.model P.Policy.model self.new
-            ≡ left (λ y. y.state) (state_of G.Score.Lattice.stands G.Game.line T.Table.model P.Policy.model self.old) (ends G.Score.Lattice.scoring
-            (state_of G.Score.Lattice.stands G.Game.line T.Table.model P.Policy.model self.old) job (stack_of G.Score.Lattice.stands stack.old)) }
-        ensures stack { stack_of G.Score.Lattice.stands stack.new
-            ≡ left (λ y. y.stack) (stack_of G.Score.Lattice.stands stack.old) (ends G.Score.Lattice.scoring
-            (state_of G.Score.Lattice.stands G.Game.line T.Table.model P.Policy.model self.old) job (stack_of G.Score.Lattice.stands stack.old)) }
+        ensures answer { end_told G.Score.Lattice.stands result ≡ answered (λ y. y.answer) (end_of self.old ticket.now stack.old) }
+        ensures leaves { state_of self.new ≡ left (λ y. y.state) (state_of self.old) (end_of self.old ticket.now stack.old) }
+        ensures stack { stack_of stack.new ≡ left (λ y. y.stack) (stack_of stack.old) (end_of self.old ticket.now stack.old) }
     {
-        let Some(open) = &self.search else {
-            return Err(Refusal::NotThisSearch);
-        };
-        if !open.matches(job, stack) {
-            return Err(Refusal::NotThisSearch);
+        match &self.search {
+            Some(open) if open.matches(ticket.job, stack) => {
+                let ended = open.ended(stack);
+                self.engine.rewind(stack, &open.progress);
+                stack.free();
+                self.search = None;
+                Ok(ended)
+            }
+            _ => Err(Refusal::NotThisSearch),
         }
-        let ended = stop(&mut self.engine, open, stack);
-        self.search = None;
-        Ok(ended)
     }
 
     /// Ends the search that has the ticket and the stack: the game goes back to where the search began, the stack is free
@@ -155,18 +149,12 @@ impl<G: Game + Drop, T: Table, P: Policy> Analyst<G, T, P> {
         ticket: Ticket,
         stack: &mut SearchStack<'_, G::Score>,
     ) -> Result<Ended<G::Score>, RefusedEnd>
-        ensures answer { end_told G.Score.Lattice.stands result ≡ handed_back ticket (answered (λ y. y.answer) (ends G.Score.Lattice.scoring
-            (state_of G.Score.Lattice.stands G.Game.line T.Table.model P.Policy.model self.old) ticket.job (stack_of G.Score.Lattice.stands stack.old))) }
-        ensures leaves { state_of G.Score.Lattice.stands G.Game.line T.Table.model P.Policy.model self.new
-            ≡ left (λ y. y.state) (state_of G.Score.Lattice.stands G.Game.line T.Table.model P.Policy.model self.old) (ends G.Score.Lattice.scoring
-            (state_of G.Score.Lattice.stands G.Game.line T.Table.model P.Policy.model self.old) ticket.job (stack_of G.Score.Lattice.stands stack.old)) }
-        ensures stack { stack_of G.Score.Lattice.stands stack.new
-            ≡ left (λ y. y.stack) (stack_of G.Score.Lattice.stands stack.old) (ends G.Score.Lattice.scoring
-            (state_of G.Score.Lattice.stands G.Game.line T.Table.model P.Policy.model self.old) ticket.job (stack_of G.Score.Lattice.stands stack.old)) }
-        ensures right { EndsRight G.Game.line G.Score.Lattice.scoring G.Score.Lattice.stands T.Table.ops P.Policy.ops
-            (state_of G.Score.Lattice.stands G.Game.line T.Table.model P.Policy.model self.old) (stack_of G.Score.Lattice.stands stack.old) (end_told G.Score.Lattice.stands result) }
+        ensures answer { end_told G.Score.Lattice.stands result ≡ handed_back ticket (answered (λ y. y.answer) (end_of self.old ticket stack.old)) }
+        ensures leaves { state_of self.new ≡ left (λ y. y.state) (state_of self.old) (end_of self.old ticket stack.old) }
+        ensures stack { stack_of stack.new ≡ left (λ y. y.stack) (stack_of stack.old) (end_of self.old ticket stack.old) }
+        ensures right { EndsRightOf self.old stack.old result }
     {
-        match self.close(ticket.job, stack) {
+        match self.close(&ticket, stack) {
             Ok(ended) => {
                 let Ticket { job: _ } = ticket;
                 Ok(ended)

@@ -1,8 +1,7 @@
-use Rattle.lattice.proofs.Gathered.{laws_of}
 use Rattle.analyst.proofs.Sequences.{promised}
 use Rattle.analyst.proofs.promise.holds.Goals as goal
 
 pub returns : goal.returns
 returns g c =
     promised g.G.Game.line g.G.Score.Lattice.scoring g.G.Score.Lattice.stands g.T.Table.ops g.P.Policy.ops
-    (laws_of g.met.G.Score.Lattice) g.met.G.Game.lawful g.T.Table.laws g.P.Policy.laws
+    g.G.Score.Lattice.laws g.met.G.Game.lawful g.T.Table.laws g.P.Policy.laws

@@ -1,24 +1,23 @@
 use Rattle.std.proofs.Common.{◌≡◌, Ok, sym, ap, ◌∙◌, subst}
-use Rattle.lattice.proofs.Gathered.{laws_of}
 use Rattle.analyst.specs.Calls.{answered}
-use Rattle.analyst.specs.Model.{stack_of, handed_back}
-use Rattle.analyst.proofs.Results.{same_ok, not_ok}
+use Rattle.analyst.specs.Model.{stack_of, end_told, handed_back}
+use Rattle.analyst.proofs.Results.{same_ok}
 use Rattle.solver.specs.Solving.{meaning, finds, SolvedRight}
-use Rattle.solver.proofs.Chain.{chain}
+use Rattle.solver.proofs.Chain.{chain, ok_is}
 use Rattle.solver.proofs.Right.{finds_right}
 use Rattle.solver.proofs.once.solve.Goals as goal
 
-pub unreachable-requires-in-Err : goal.unreachable-requires-in-Err
-unreachable-requires-in-Err g c =
+pub unwrap-ended-requires : goal.unwrap-ended-requires
+unwrap-ended-requires g c =
     let o = g.G.Score.Lattice.scoring in
     let st = g.G.Score.Lattice.stands in
-    let k = stack_of st c.args.stack.now in
-    let law = laws_of g.met.G.Score.Lattice in
+    let k = stack_of c.args.stack.now in
     let begun = c.in_ok-ticket.ensures in
-    let run = c.in-Ok.ensures in
-    let did = chain o st g.T.Table.ops g.P.Policy.ops (g.G.Game.line c.args.game) (g.T.Table.model c.args.table) (g.P.Policy.model c.args.policy) c.args.job c.args.steps
-    law _ _ _ k _ _ c.new-analyst.ensures c.whole.ensures begun.answer (λ e. ap (λ t. t.job) (sym e)) _ _ begun.leaves begun.stack _ run.answer _ _ run.leaves run.stack in
-    not_ok (c.in-Err.ensures.answer ∙ ap (λ r. handed_back c.in_ok-ticket.ticket (answered (λ y. y.answer) r)) did.ends_is)
+    let run = c.run.ensures in
+    let did =
+    chain o st g.T.Table.ops g.P.Policy.ops (g.G.Game.line c.args.game) (g.T.Table.model c.args.table) (g.P.Policy.model c.args.policy) c.args.job c.args.steps
+    g.G.Score.Lattice.laws _ k _ _ c.new-analyst.ensures c.whole.ensures begun.answer _ _ begun.leaves begun.stack _ (sym c.unwrap-ran.ensures ∙ run.answer) _ _ run.leaves run.stack in
+    ok_is st c.end.result _ (c.end.ensures.answer ∙ ap (λ r. handed_back c.in_ok-ticket.ticket (answered (λ y. y.answer) r)) did.ends_is)
 
 pub returns : goal.returns
 returns g c =
@@ -29,22 +28,16 @@ returns g c =
     let l = g.G.Game.line c.args.game in
     let m = g.T.Table.model c.args.table in
     let p = g.P.Policy.model c.args.policy in
-    let k = stack_of st c.args.stack.now in
-    let law = laws_of g.met.G.Score.Lattice in
+    let k = stack_of c.args.stack.now in
+    let law = g.G.Score.Lattice.laws in
     let begun = c.in_ok-ticket.ensures in
-    let run = c.in-Ok.ensures in
-    let did = chain o st tb ch l m p c.args.job c.args.steps
-    law _ _ _ k _ _ c.new-analyst.ensures c.whole.ensures begun.answer (λ e. ap (λ t. t.job) (sym e)) _ _ begun.leaves begun.stack _ run.answer _ _ run.leaves run.stack in
-    let ended = same_ok (c.in-Ok-end.ensures.answer ∙ ap (λ r. handed_back c.in_ok-ticket.ticket (answered (λ y. y.answer) r)) did.ends_is) in
-    let same : meaning st c.told.result ≡ finds o st tb ch l m p k.places c.args.steps =
-    ap (meaning st) c.told.ensures
-    ∙ (λ i. record {
-      steps = (did.ran_is i).steps;
-      finished = (did.ran_is i).finished;
-      entered = (ended i).entered;
-      used = (ended i).used;
-      value = (ended i).value;
-    }) in
+    let run = c.run.ensures in
+    let did =
+    chain o st tb ch l m p c.args.job c.args.steps
+    law _ k _ _ c.new-analyst.ensures c.whole.ensures begun.answer _ _ begun.leaves begun.stack _ (sym c.unwrap-ran.ensures ∙ run.answer) _ _ run.leaves run.stack in
+    let ended = same_ok (ap (end_told st) (sym c.unwrap-ended.ensures) ∙ c.end.ensures.answer ∙ ap (λ r. handed_back c.in_ok-ticket.ticket (answered (λ y. y.answer) r)) did.ends_is) in
+    let same : _ ≡ finds o st tb ch l m p k.places c.args.steps =
+    ap (meaning st) c.told.ensures ∙ (λ i. record { steps = (did.ran_is i).steps; ended = ended i }) in
     record {
       answer = ap Ok same ∙ sym did.solves_is;
       right = subst (SolvedRight o st l.present c.args.steps) (sym same)
