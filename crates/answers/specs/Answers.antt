@@ -25,13 +25,16 @@ abbrev pub fault_text : ℕ → ℕ → ℕ → ℕ → List ℕ
 fault_text n fault field byte =
     decimal n ++ (codes ",E," ++ (decimal fault ++ (codes "," ++ (decimal field ++ (codes "," ++ decimal byte)))))
 
--- line,D,tricks,positions
-abbrev pub tricks_text : ℕ → ℕ → ℕ → List ℕ
-tricks_text n value positions = decimal n ++ (codes ",D," ++ (decimal value ++ (codes "," ++ decimal positions)))
+-- line,kind,value,positions
+abbrev pub value_text : ℕ → List ℕ → List ℕ → ℕ → List ℕ
+value_text n kind value positions =
+    decimal n ++ (codes "," ++ (kind ++ (codes "," ++ (value ++ (codes "," ++ decimal positions)))))
 
--- line,P,family,positions
-abbrev pub plan_text : ℕ → List ℕ → ℕ → List ℕ
-plan_text n family positions = decimal n ++ (codes ",P," ++ (family ++ (codes "," ++ decimal positions)))
+-- hands of at most four cards are solved: the plain value and the size of the tree; larger ones are left open
+abbrev pub game_text : {C : Type 0} → List ℕ → (C → List ℕ) → ℕ → ℕ → C → ℕ → List ℕ
+game_text kind shown n cards value positions =
+    cond (nat_lt 4 cards) (decimal n ++ (codes "," ++ (kind ++ codes ",U,0")))
+    (value_text n kind (shown value) (capped positions))
 
 -- the tree of a deal's first position, for the trick game and for the plan game with a target
 abbrev pub tricks_tree : Deal → Tree Tricks
@@ -40,16 +43,14 @@ tricks_tree d = position (dealt d) tricks_won (first_play (dealt d))
 abbrev pub plan_tree : ℕ → Deal → Tree Family
 plan_tree t d = position (dealt d) (sets_made t) (first_play (dealt d))
 
--- hands of at most four cards are solved: the plain value and the size of the tree; larger ones are left open
+-- D with the number of tricks in best play, and P with the family that one plan beats
 abbrev pub tricks_answer : ℕ → Deal → List ℕ
 tricks_answer n d =
-    cond (nat_lt 4 (size d.hand0)) (decimal n ++ codes ",D,U,0")
-    (tricks_text n (plain trick_scoring tricks_of (tricks_tree d)).number (capped (tree_size (tricks_tree d))))
+    game_text (codes "D") (λ v. decimal v.number) n (size d.hand0) (plain trick_scoring tricks_of (tricks_tree d)) (tree_size (tricks_tree d))
 
 abbrev pub plan_answer : ℕ → ℕ → Deal → List ℕ
 plan_answer n t d =
-    cond (nat_lt 4 (size d.hand0)) (decimal n ++ codes ",P,U,0")
-    (plan_text n (hex_text (plan_family (dealt d) t (first_play (dealt d))).number) (capped (tree_size (plan_tree t d))))
+    game_text (codes "P") (λ v. hex_text v.number) n (size d.hand0) (plan_family (dealt d) t (first_play (dealt d))) (tree_size (plan_tree t d))
 
 abbrev pub deal_text : ℕ → Asked → Deal → List ℕ
 deal_text n tricks d = tricks_answer n d
@@ -57,4 +58,4 @@ deal_text n (plan t) d = plan_answer n t d
 
 abbrev pub answer_text : ℕ → Result Deal Fault → List ℕ
 answer_text n (Ok d) = deal_text n d.asked d
-answer_text n (Err f) = fault_text n (fault_number f.kind) f.field f.byte
+answer_text n (Err f) = fault_text n (fault_number f.kind) f.place.field f.place.byte

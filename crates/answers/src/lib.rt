@@ -3,19 +3,23 @@
 #![tactic(auto)]
 
 ghost use Rattle.std.specs.Prelude.{◌≡◌, IfOk, string_bytes};
-ghost use Rattle.answers.specs.Answers.{line_text, fault_text, tricks_text, plan_text, tricks_answer, plan_answer, answer_text};
-ghost use Rattle.lines.specs.Deals.{tricks, plan};
+ghost use Rattle.answers.specs.Answers.{line_text, fault_text, game_text, answer_text};
+ghost use Rattle.games.specs.Trees.{plain, size};
+ghost use Rattle.deals.specs.Games.{game_line};
+ghost use Rattle.lines.specs.Faults.{fault_number};
 ghost use Rattle.lines.specs.Reading.{read_line};
-ghost use Rattle.lines.specs.Told.{deal_of};
 
-use deals::plans::beaten_sets;
-use deals::{PlanGame, TrickGame};
+use deals::{Aim, CardGame, PlanGame, TrickGame};
 use games::evaluate::evaluate;
-use lattice::Lattice;
-use lines::{Goal, Problem};
+use lines::{Fault, Goal};
 use std::alloc::{AllocError, Global};
 
 pub mod hex;
+pub mod input;
+pub mod shown;
+
+use input::Answering;
+use shown::Shown;
 
 /// The most cards of a hand for which every line of play is gone through.
 const SMALL: u32 = 4;
@@ -24,71 +28,40 @@ const SMALL: u32 = 4;
 pub fn without_line_feed(line: &[u8]) -> &[u8]
     ensures { result.now ≡ line_text line.now }
 {
-    match line.last() {
-        Some(b'\n') => &line[0..line.len() - 1],
+    match line {
+        [text @ .., b'\n'] => text,
         _ => line,
     }
 }
 
 /// The text for a line with a fault: its number, E, and the fault's number, field and byte.
-pub fn of_fault(
+pub fn fault_line(heap: Global, number: u64, fault: Fault) -> Result<String, AllocError>
+    ensures { IfOk result (λ s. string_bytes s ≡ fault_text number (fault_number fault.kind) fault.place.field fault.place.byte) }
+{
+    format!(in heap; "{number},E,{fault}")
+}
+
+/// The line for a game: its number, the letter of its scores, the value of its present position and the number of
+/// positions, or U and 0 where the hands are not small.
+fn of_game<A: Aim>(
     heap: Global,
     number: u64,
-    kind: u8,
-    field: usize,
-    byte: usize,
+    cards: u32,
+    mut game: CardGame<A>,
 ) -> Result<String, AllocError>
-    ensures { IfOk result (λ s. string_bytes s ≡ fault_text number kind field byte) }
+where
+    A::Score: Shown,
+    ensures { IfOk result (λ s. string_bytes s ≡ game_text A.Score.Shown.letter (λ v. A.Score.Shown.shown (A.Score.Lattice.scoring.code v)) number cards
+        (plain A.Score.Lattice.scoring A.Score.Lattice.stands (game_line A.worth game).present) (size (game_line A.worth game).present)) }
 {
-    format!(in heap; "{number},E,{kind},{field},{byte}")
-}
-
-fn of_tricks(heap: Global, number: u64, tricks: u8, positions: u64) -> Result<String, AllocError>
-    ensures { IfOk result (λ s. string_bytes s ≡ tricks_text number tricks positions) }
-{
-    format!(in heap; "{number},D,{tricks},{positions}")
-}
-
-fn of_plan(heap: Global, number: u64, family: &str, positions: u64) -> Result<String, AllocError>
-    ensures { IfOk result (λ s. string_bytes s ≡ plan_text number family.now positions) }
-{
-    format!(in heap; "{number},P,{family},{positions}")
-}
-
-/// The answer for a problem that asks for tricks: their number in best play, and the number of positions.
-fn by_tricks(heap: Global, number: u64, problem: Problem) -> Result<String, AllocError>
-    requires { (deal_of problem).asked ≡ tricks }
-    ensures { IfOk result (λ s. string_bytes s ≡ tricks_answer number (deal_of problem)) }
-{
-    if problem.cards() > SMALL {
-        return format!(in heap; "{number},D,U,0");
+    let letter = A::Score::letter();
+    if cards > SMALL {
+        return format!(in heap; "{number},{letter},U,0");
     }
-    match TrickGame::new(problem) {
-        Ok(mut game) => {
-            let found = evaluate(&mut game);
-            of_tricks(heap, number, found.value.number(), found.positions)
-        }
-        Err(_) => format!(in heap; "{number},D,U,0"),
-    }
-}
-
-/// The answer for a problem that asks for a plan: the family of the sets of layouts that one plan beats, and the
-/// number of positions.
-fn by_plan(heap: Global, number: u64, problem: Problem, target: u8) -> Result<String, AllocError>
-    requires { (deal_of problem).asked ≡ plan target }
-    ensures { IfOk result (λ s. string_bytes s ≡ plan_answer number target (deal_of problem)) }
-{
-    if problem.cards() > SMALL {
-        return format!(in heap; "{number},P,U,0");
-    }
-    match PlanGame::new(problem) {
-        Ok(mut game) => {
-            let found = beaten_sets(&mut game);
-            let family = hex::hex(heap, found.value.code())?;
-            of_plan(heap, number, family.as_str(), found.positions)
-        }
-        Err(_) => format!(in heap; "{number},P,U,0"),
-    }
+    let found = evaluate(&mut game);
+    let value = found.value.shown(heap)?;
+    let positions = found.positions;
+    format!(in heap; "{number},{letter},{value},{positions}")
 }
 
 /// The answer to a problem line: its number, the kind, the value of its deal and the number of positions, or U and 0
@@ -96,11 +69,44 @@ fn by_plan(heap: Global, number: u64, problem: Problem, target: u8) -> Result<St
 pub fn answer(heap: Global, number: u64, line: &[u8]) -> Result<String, AllocError>
     ensures { IfOk result (λ s. string_bytes s ≡ answer_text number (read_line line.now)) }
 {
-    match lines::read(line) {
-        Err(fault) => of_fault(heap, number, fault.kind.number(), fault.field, fault.byte),
-        Ok(problem) => match problem.goal() {
-            Goal::Tricks => by_tricks(heap, number, problem),
-            Goal::Plan(target) => by_plan(heap, number, problem, target.0),
-        },
+    let problem = match lines::read(line) {
+        Ok(problem) => problem,
+        Err(fault) => return fault_line(heap, number, fault),
+    };
+    let cards = problem.cards();
+    // Stays a match in each crate that takes problems: the two games are two types, and no closure takes both.
+    match problem.goal() {
+        Goal::Tricks => of_game(heap, number, cards, TrickGame::new(problem).unwrap()),
+        Goal::Plan(_) => of_game(heap, number, cards, PlanGame::new(problem).unwrap()),
+    }
+}
+
+/// Answers problem lines by playing every line of play.
+#[derive(Clone, Copy)]
+pub struct ByPlay;
+
+impl Answering for ByPlay {
+    ghost text = { λ n line. answer_text n (read_line line) };
+
+    fn answer(&self, heap: Global, number: u64, line: &[u8]) -> Result<String, AllocError> {
+        answer(heap, number, line)
+    }
+}
+
+#[cfg(test)]
+mod tests {
+    use super::ByPlay;
+    use super::input::answer_all;
+
+    #[test]
+    fn answers_each_line(rt: HostRuntime) {
+        let heap = rt.alloc();
+        let mut input: &[u8] =
+            b"D,N,0,SA,SK,SQ,SJ\nD,X,0,SA,SK,SQ,SJ\n\nP,N,0,1,SA,S2,2,SK,H2,H2,SK";
+        let mut output = Vec::new(heap);
+        let done = answer_all(heap, &mut input, &mut output, &ByPlay);
+        assert!(rt; done.is_ok());
+        let text: &[u8] = b"1,D,1,5\n2,E,13,2,3\n3,E,11,1,1\n4,P,0xffffffffffffffff,8\n";
+        assert!(rt; output.as_slice() == text);
     }
 }

@@ -29,7 +29,8 @@ use Rattle.deals.specs.Scores.{tricks_won, sets_made}
 use Rattle.deals.specs.Stands.{first_stand, line_of}
 use Rattle.deals.proofs.Lines.{line_height}
 use Rattle.deals.proofs.Values.{plan_value}
-use Rattle.analyst.proofs.Results.{some_same, none_some}
+use Rattle.std.proofs.lemmas.Option.{none-some}
+use Rattle.analyst.proofs.Results.{some_same}
 use Rattle.solver.specs.declared.once.Solved.{Solved}
 use Rattle.solver.specs.Solving.{finds, SolvedRight}
 use Rattle.solver.proofs.Right.{finds_right}
@@ -65,7 +66,7 @@ module _ {S C : Type 0} (o : Scoring C) (st : S → C) (law : Laws o) (score : P
 -- an answer with a value has it from the condition
 had : {C : Type 0} (b : Bool) (u v : C) → ◌≡◌ {A = Option C} (cond b (Some u) None) (Some v) → u ≡ v
 had true u v e = some_same e
-had false u v e = absurd (none_some e)
+had false u v e = absurd (none-some v e)
 
 tricks_right : (n : ℕ) → 0 < n → (d : Deal) → Valid d → TricksRight n d
 tricks_right n some d v = record {

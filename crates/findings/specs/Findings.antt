@@ -1,5 +1,6 @@
 -- The text of a line for what a search finds.
-use Rattle.std.specs.Prelude.{ℕ, Bool, true, false, List, ◌++◌, Some, None, Ok, Err, codes, decimal, Option, Result}
+use Rattle.std.specs.Prelude.{ℕ, List, ◌++◌, Some, None, Ok, Err, codes, decimal, Option, Result}
+use Rattle.std.specs.Int.{from_bool}
 use Rattle.lattice.specs.Scores.{Scoring}
 use Rattle.lattice.specs.FamilyScores.{family_scoring}
 use Rattle.lattice.specs.TrickScores.{trick_scoring}
@@ -9,8 +10,7 @@ use Rattle.lines.specs.Faults.{fault_number}
 use Rattle.analyst.specs.declared.refusal.Refusal.{Refusal}
 use Rattle.analyst.specs.Questions.{number_of}
 use Rattle.solver.specs.declared.once.Solved.{Solved}
-use Rattle.findings.specs.declared.found.Kind.{Kind}
-use Rattle.findings.specs.declared.found.Kind.TheVariants.{Tricks, Plan}
+use Rattle.solver.specs.Solving.{is_finished}
 use Rattle.answers.specs.Answers.{fault_text}
 use Rattle.answers.specs.Hex.{hex_text}
 use Rattle.findings.specs.Searched.{granted, tricks_solved, plan_solved}
@@ -28,20 +28,10 @@ whole_line n kind value counts = decimal n ++ (codes "," ++ (kind ++ (codes "," 
 abbrev pub refusal_text : ℕ → List ℕ → ℕ → List ℕ
 refusal_text n kind refusal = decimal n ++ (codes "," ++ (kind ++ (codes ",R," ++ decimal refusal)))
 
-abbrev pub letter : Kind → List ℕ
-letter Tricks = codes "D"
-letter Plan = codes "P"
-
-abbrev pub flag : Bool → ℕ
-flag true = 1
-flag false = 0
-
--- a value by its code: U where there is none, tricks in decimal, families in hexadecimal
-abbrev pub value_text : Kind → Option ℕ → List ℕ
-value_text Tricks None = codes "U"
-value_text Plan None = codes "U"
-value_text Tricks (Some c) = decimal c
-value_text Plan (Some c) = hex_text c
+-- a value by its code: U where there is none
+abbrev pub value_text : (ℕ → List ℕ) → Option ℕ → List ℕ
+value_text shown None = codes "U"
+value_text shown (Some c) = shown c
 
 module _ {C : Type 0} (o : Scoring C) where
   abbrev pub coded : Option C → Option ℕ
@@ -49,18 +39,19 @@ module _ {C : Type 0} (o : Scoring C) where
   coded (Some v) = Some (o.code v)
 
   -- what a search found, or its refusal
-  abbrev pub found_text : ℕ → Kind → Solved C → List ℕ
-  found_text n kind f =
-      whole_line n (letter kind) (value_text kind (coded f.value)) (counts_text f.entered f.used f.steps (flag f.finished))
+  abbrev pub found_text : List ℕ → (ℕ → List ℕ) → ℕ → Solved C → List ℕ
+  found_text kind shown n f =
+      whole_line n kind (value_text shown (coded f.ended.value)) (counts_text f.ended.entered f.ended.used f.steps (from_bool (is_finished f)))
 
-  abbrev pub solved_text : ℕ → Kind → Result (Solved C) Refusal → List ℕ
-  solved_text n kind (Ok f) = found_text n kind f
-  solved_text n kind (Err r) = refusal_text n (letter kind) (number_of r)
+  abbrev pub solved_text : List ℕ → (ℕ → List ℕ) → ℕ → Result (Solved C) Refusal → List ℕ
+  solved_text kind shown n (Ok f) = found_text kind shown n f
+  solved_text kind shown n (Err r) = refusal_text n kind (number_of r)
 
+-- D with tricks in decimal, and P with families in hexadecimal
 abbrev pub deal_text : ℕ → Asked → Deal → List ℕ
-deal_text n tricks d = solved_text trick_scoring n Tricks (tricks_solved n d granted)
-deal_text n (plan t) d = solved_text family_scoring n Plan (plan_solved n t d granted)
+deal_text n tricks d = solved_text trick_scoring (codes "D") decimal n (tricks_solved n d granted)
+deal_text n (plan t) d = solved_text family_scoring (codes "P") hex_text n (plan_solved n t d granted)
 
 abbrev pub answer_text : ℕ → Result Deal Fault → List ℕ
 answer_text n (Ok d) = deal_text n d.asked d
-answer_text n (Err f) = fault_text n (fault_number f.kind) f.field f.byte
+answer_text n (Err f) = fault_text n (fault_number f.kind) f.place.field f.place.byte

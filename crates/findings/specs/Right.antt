@@ -23,7 +23,7 @@ pub record PlanRight (n t : ℕ) (d : Deal) : Type 0 where
   pub found : Solved FamilyScore
   pub is : plan_solved n t d granted ≡ Ok found
   pub right : SolvedRight family_scoring family_of (plan_line t d).present granted found
-  pub plans : (v : FamilyScore) → found.value ≡ Some v → Beaten (first_stand (dealt d)) t v
+  pub plans : (v : FamilyScore) → found.ended.value ≡ Some v → Beaten (first_stand (dealt d)) t v
 
 abbrev pub DealRight : ℕ → Asked → Deal → Type 0
 DealRight n tricks d = TricksRight n d

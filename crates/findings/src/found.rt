@@ -1,125 +1,67 @@
 //! The text of what a search found.
 
 ghost use Rattle.std.specs.Prelude.{◌≡◌, IfOk, string_bytes};
+ghost use Rattle.std.specs.Int.{from_bool};
 ghost use Rattle.lattice.specs.Scores.{standing};
-ghost use Rattle.solver.specs.Solving.{solved_of, meaning};
-ghost use Rattle.findings.specs.Findings.{letter, value_text, counts_text, whole_line, flag, coded, found_text, refusal_text, solved_text};
+ghost use Rattle.solver.specs.Solving.{is_finished, meaning, solved_of};
+ghost use Rattle.findings.specs.Findings.{coded, value_text, counts_text, found_text, solved_text};
 
 use analyst::Refusal;
-use answers::hex;
+use answers::shown::Shown;
 use lattice::Lattice;
 use solver::Solved;
 use std::alloc::{AllocError, Global};
 
-/// What a problem line asks for.
-#[derive(Clone, Copy)]
-pub(crate) enum Kind {
-    Tricks,
-    Plan,
-}
-
-/// The letter of a kind.
-fn letter(kind: Kind) -> &'static str
-    ensures { result.now ≡ letter kind }
+/// The text of a value: U where there is none.
+fn value_text<S: Shown>(heap: Global, value: Option<S>) -> Result<String, AllocError>
+    ensures { IfOk result (λ s. string_bytes s ≡ value_text S.Shown.shown (coded S.Lattice.scoring (standing S.Lattice.stands value))) }
 {
-    match kind {
-        Kind::Tricks => "D",
-        Kind::Plan => "P",
-    }
-}
-
-/// 1 for yes and 0 for no.
-fn flag(given: bool) -> u8
-    ensures { result ≡ flag given }
-{
-    if given { 1 } else { 0 }
-}
-
-/// The text of a value by its code: U where there is none, tricks in decimal, families in hexadecimal.
-fn value_text(heap: Global, kind: Kind, code: Option<u64>) -> Result<String, AllocError>
-    ensures { IfOk result (λ s. string_bytes s ≡ value_text kind code) }
-{
-    match (kind, code) {
-        (_, None) => String::from_str(heap, "U"),
-        (Kind::Tricks, Some(code)) => format!(in heap; "{code}"),
-        (Kind::Plan, Some(code)) => hex::hex(heap, code),
+    match value {
+        Some(score) => score.shown(heap),
+        None => String::from_str(heap, "U"),
     }
 }
 
 /// entered,used,steps,finished
-fn counts(
-    heap: Global,
-    entered: u64,
-    used: u64,
-    steps: u32,
-    finished: u8,
-) -> Result<String, AllocError>
-    ensures { IfOk result (λ s. string_bytes s ≡ counts_text entered used steps finished) }
+// Stays a format, as the lines below: an impl of Display would say its output twice, as the text and in a ghost member.
+#[tactic(auto, using(crate::proofs::Told::finished_still))]
+fn counts<S: Lattice>(heap: Global, found: &Solved<S>) -> Result<String, AllocError>
+    ensures { IfOk result (λ s. string_bytes s
+        ≡ counts_text found.now.ended.entered found.now.ended.used found.now.steps (from_bool (is_finished (meaning S.Lattice.stands found.now)))) }
 {
+    let entered = found.ended.entered;
+    let used = found.ended.used;
+    let steps = found.steps;
+    let finished = u8::from(found.is_finished());
     format!(in heap; "{entered},{used},{steps},{finished}")
 }
 
-/// line,kind,value,counts
-fn whole_line(
-    heap: Global,
-    number: u64,
-    kind: &str,
-    value: &str,
-    counts: &str,
-) -> Result<String, AllocError>
-    ensures { IfOk result (λ s. string_bytes s ≡ whole_line number kind.now value.now counts.now) }
+/// The line for what a search found.
+fn of_found<S: Shown>(heap: Global, number: u64, found: Solved<S>) -> Result<String, AllocError>
+    ensures { IfOk result (λ s. string_bytes s
+        ≡ found_text S.Lattice.scoring S.Shown.letter S.Shown.shown number (meaning S.Lattice.stands found)) }
 {
+    let kind = S::letter();
+    let counts = counts(heap, &found)?;
+    let value = value_text(heap, found.ended.value)?;
     format!(in heap; "{number},{kind},{value},{counts}")
 }
 
-/// line,kind,R,refusal
-fn of_refusal(heap: Global, number: u64, kind: &str, refusal: u8) -> Result<String, AllocError>
-    ensures { IfOk result (λ s. string_bytes s ≡ refusal_text number kind.now refusal) }
-{
-    format!(in heap; "{number},{kind},R,{refusal}")
-}
-
-/// The code of a value.
-fn code<S: Lattice>(value: Option<S>) -> Option<u64>
-    ensures { result ≡ coded S.Lattice.scoring (standing S.Lattice.stands value) }
-{
-    match value {
-        Some(score) => Some(score.code()),
-        None => None,
-    }
-}
-
-/// The line for what a search found.
-fn of_found<S: Lattice>(
-    heap: Global,
-    number: u64,
-    kind: Kind,
-    found: Solved<S>,
-) -> Result<String, AllocError>
-    ensures { IfOk result (λ s. string_bytes s ≡ found_text S.Lattice.scoring number kind (meaning S.Lattice.stands found)) }
-{
-    let value = value_text(heap, kind, code(found.value))?;
-    let counts = counts(
-        heap,
-        found.entered,
-        found.used,
-        found.steps,
-        flag(found.finished),
-    )?;
-    whole_line(heap, number, letter(kind), value.as_str(), counts.as_str())
-}
-
 /// The line for what a search found, or for its refusal.
-pub(crate) fn told<S: Lattice>(
+pub(crate) fn told<S: Shown>(
     heap: Global,
     number: u64,
-    kind: Kind,
     solved: Result<Solved<S>, Refusal>,
 ) -> Result<String, AllocError>
-    ensures { IfOk result (λ s. string_bytes s ≡ solved_text S.Lattice.scoring number kind (solved_of S.Lattice.stands solved)) }
+    ensures { IfOk result (λ s. string_bytes s
+        ≡ solved_text S.Lattice.scoring S.Shown.letter S.Shown.shown number (solved_of S.Lattice.stands solved)) }
 {
     match solved {
-        Ok(found) => of_found(heap, number, kind, found),
-        Err(refusal) => of_refusal(heap, number, letter(kind), refusal.number()),
+        Ok(found) => of_found(heap, number, found),
+        Err(refusal) => {
+            let kind = S::letter();
+            let refusal = refusal.number();
+            format!(in heap; "{number},{kind},R,{refusal}")
+        }
     }
 }

@@ -7,23 +7,39 @@ ghost use Rattle.findings.specs.Findings.{answer_text};
 ghost use Rattle.findings.specs.Right.{AnswerRight};
 ghost use Rattle.lines.specs.Reading.{read_line};
 
-use answers::of_fault;
+use answers::fault_line;
+use answers::input::Answering;
+use deals::{PlanGame, TrickGame};
 use lines::Goal;
+use search::Frame;
 use std::alloc::{AllocError, Global};
 
 mod found;
 mod searched;
 
-/// The text for a line, with no theorem about it yet.
+use searched::searched;
+
+/// The steps that a search is granted.
+const STEPS: u32 = 1_000_000;
+
+/// The text alone; `answer` adds that what it says is right.
 fn text(heap: Global, number: u64, line: &[u8]) -> Result<String, AllocError>
     ensures { IfOk result (λ s. string_bytes s ≡ answer_text number (read_line line.now)) }
 {
-    match lines::read(line) {
-        Err(fault) => of_fault(heap, number, fault.kind.number(), fault.field, fault.byte),
-        Ok(problem) => match problem.goal() {
-            Goal::Tricks => searched::by_tricks(heap, number, problem),
-            Goal::Plan(target) => searched::by_plan(heap, number, problem, target.0),
-        },
+    let problem = match lines::read(line) {
+        Ok(problem) => problem,
+        Err(fault) => return fault_line(heap, number, fault),
+    };
+    // Stays a match in each crate that takes problems: the two games are two types, and no closure takes both.
+    match problem.goal() {
+        Goal::Tricks => {
+            let game = TrickGame::new(problem).unwrap();
+            searched(heap, number, game, &mut [Frame::blank(); 65], STEPS)
+        }
+        Goal::Plan(_) => {
+            let game = PlanGame::new(problem).unwrap();
+            searched(heap, number, game, &mut [Frame::blank(); 65], STEPS)
+        }
     }
 }
 
@@ -37,4 +53,33 @@ pub fn answer(heap: Global, number: u64, line: &[u8]) -> Result<String, AllocErr
     ensures right { AnswerRight number (read_line line.now) }
 {
     text(heap, number, line)
+}
+
+/// Answers problem lines by searching their first positions.
+#[derive(Clone, Copy)]
+pub struct BySearch;
+
+impl Answering for BySearch {
+    ghost text = { λ n line. answer_text n (read_line line) };
+
+    fn answer(&self, heap: Global, number: u64, line: &[u8]) -> Result<String, AllocError> {
+        answer(heap, number, line)
+    }
+}
+
+#[cfg(test)]
+mod tests {
+    use super::BySearch;
+    use answers::input::answer_all;
+
+    #[test]
+    fn answers_each_line(rt: HostRuntime) {
+        let heap = rt.alloc();
+        let mut input: &[u8] = b"D,X,0,SA,SK,SQ,SJ\nP,N,0,1,SA,S2,2,SK,H2,H2,SK\n";
+        let mut output = Vec::new(heap);
+        let done = answer_all(heap, &mut input, &mut output, &BySearch);
+        assert!(rt; done.is_ok());
+        let first: &[u8] = b"1,E,13,2,3\n2,P,0xffffffffffffffff,";
+        assert!(rt; output.as_slice().starts_with(first));
+    }
 }

@@ -3,163 +3,88 @@
 
 #![tactic(auto)]
 
-use bitsets::BitSet;
-use deals::{PlanGame, TrickGame};
-use games::Game;
+use answers::fault_line;
+use answers::input::answer_lines;
+use answers::shown::Shown;
+use deals::{Aim, CardGame, PlanGame, TrickGame};
 use lattice::Lattice;
 use lattice::bracket::Bracket;
-use lattice::family::Family;
-use lattice::tricks::Tricks;
-use policies::{Highest, Policy, Recent};
+use lines::Goal;
+use policies::{Highest, Recent};
 use search::engine::run::is_finished;
 use search::{Engine, Frame, Hand, Progress, SearchStack};
-use std::alloc::Global;
+use std::alloc::{AllocError, Global};
 use std::io;
-use std::io::{BufRead, BufReader};
-use tables::{Claim, Direct, Front, Table};
+use std::io::BufReader;
+use tables::{Direct, Front};
 
 /// The steps that a search is granted.
 const STEPS: u32 = 1_000_000;
 
-/// How a search of the whole range of scores went: the code of the value, if it is finished, and the counts.
-#[derive(Drop)]
-struct Outcome {
-    code: Option<u64>,
-    entered: u64,
-    used: u64,
-    steps: u32,
-}
-
-/// The window that shows every score.
-fn whole<S: Lattice>() -> Bracket<S> {
-    Bracket {
-        lo: S::bottom(),
-        hi: S::top(),
-    }
-}
-
-/// The code of the value that a search has in hand, if it is finished.
-fn value<S: Lattice>(finished: bool, hand: Hand<S>) -> Option<u64> {
-    match hand {
-        Hand::Holding(bracket) if finished => Some(Bracket::clamp(whole(), bracket.lo).code()),
+/// The value that a search has in hand, if it is finished.
+fn value<S: Lattice>(stack: &SearchStack<'_, S>, progress: &Progress<S>) -> Option<S> {
+    match progress.hand {
+        Hand::Holding(bracket) if is_finished(stack, progress) => Some(Bracket::whole().clamp(
+            bracket.lo,
+        )),
         _ => None,
     }
 }
 
-/// Searches the present position of an engine's game.
-fn run<G: Game, T: Table, P: Policy>(
-    engine: &mut Engine<G, T, P>,
-    frames: &mut [Frame<G::Score>],
-) -> Outcome {
-    let mut stack = SearchStack::new(frames);
-    let mut progress = Progress {
-        hand: Hand::Enter(whole()),
-        entered: 0,
-        used: 0,
-    };
-    let steps = engine.run(&mut stack, &mut progress, STEPS);
-    let finished = is_finished(&stack, &progress);
-    Outcome {
-        code: value(finished, progress.hand),
-        entered: progress.entered,
-        used: progress.used,
-        steps,
-    }
-}
-
-/// Searches a game with Front over Direct with 61 places, and the policy Recent over Highest.
-fn searched<G: Game + Drop>(game: G, frames: &mut [Frame<G::Score>]) -> Outcome {
-    let mut places = [None; 61];
-    with_table(game, &mut places, frames)
-}
-
-/// The same with a table over these places.
-fn with_table<G: Game + Drop>(
-    game: G,
-    places: &mut [Option<Claim>],
-    frames: &mut [Frame<G::Score>],
-) -> Outcome {
-    let mut engine = Engine {
-        game,
-        table: Front::new(Direct::new(places)),
-        policy: Recent::new(Highest),
-    };
-    run(&mut engine, frames)
-}
-
-/// A place for an open position.
-fn blank<S: Lattice>() -> Frame<S> {
-    Frame {
-        window: whole(),
-        found: whole(),
-        taken: BitSet::EMPTY,
-        last: None,
-    }
-}
-
-fn by_tricks(game: TrickGame) -> Outcome {
-    let mut frames = [blank::<Tricks>(); 65];
-    searched(game, &mut frames)
-}
-
-fn by_plan(game: PlanGame) -> Outcome {
-    let mut frames = [blank::<Family>(); 65];
-    searched(game, &mut frames)
-}
-
-/// The line for an outcome, with its value as a text.
-fn told(
+/// The line for the search of a game with Front over Direct with 61 places, Recent over Highest, and a stack over frames.
+fn searched<A: Aim>(
     heap: Global,
     number: u64,
-    kind: char,
-    value: &str,
-    finished: u8,
-    outcome: &Outcome,
-) -> io::Result<String> {
-    let entered = outcome.entered;
-    let used = outcome.used;
-    let steps = outcome.steps;
-    Ok(format!(in heap; "{number},{kind},{value},{entered},{used},{steps},{finished}")?)
+    game: CardGame<A>,
+    frames: &mut [Frame<A::Score>],
+) -> Result<String, AllocError>
+where
+    A::Score: Shown,
+{
+    let mut places = [None; 61];
+    let mut engine = Engine {
+        game,
+        table: Front::new(Direct::new(&mut places)),
+        policy: Recent::new(Highest),
+    };
+    let mut stack = SearchStack::new(frames);
+    let mut progress = Progress::new(Bracket::whole());
+    let steps = engine.run(&mut stack, &mut progress, STEPS);
+    let found = value(&stack, &progress);
+    let finished = u8::from(found.is_some());
+    let value = match found {
+        Some(score) => score.shown(heap)?,
+        None => String::from_str(heap, "U")?,
+    };
+    let kind = A::Score::letter();
+    let entered = progress.entered;
+    let used = progress.used;
+    format!(in heap; "{number},{kind},{value},{entered},{used},{steps},{finished}")
 }
 
-fn line(heap: Global, number: u64, text: &[u8]) -> io::Result<String> {
-    let Ok(problem) = lines::read(text) else {
-        return Ok(answers::answer(heap, number, text)?);
+/// The line for a line of the input.
+fn line(heap: Global, number: u64, text: &[u8]) -> Result<String, AllocError> {
+    let problem = match lines::read(text) {
+        Ok(problem) => problem,
+        Err(fault) => return fault_line(heap, number, fault),
     };
-    if let Ok(game) = TrickGame::new(problem) {
-        let found = by_tricks(game);
-        return match found.code {
-            Some(tricks) => {
-                let value = format!(in heap; "{tricks}")?;
-                told(heap, number, 'D', value.as_str(), 1, &found)
-            }
-            None => told(heap, number, 'D', "U", 0, &found),
-        };
-    }
-    let Ok(game) = PlanGame::new(problem) else {
-        return Ok(answers::answer(heap, number, text)?);
-    };
-    let found = by_plan(game);
-    match found.code {
-        Some(family) => {
-            let value = answers::hex::hex(heap, family)?;
-            told(heap, number, 'P', value.as_str(), 1, &found)
+    // Stays a match in each crate that takes problems: the two games are two types, and no closure takes both.
+    match problem.goal() {
+        Goal::Tricks => {
+            let game = TrickGame::new(problem).unwrap();
+            searched(heap, number, game, &mut [Frame::blank(); 65])
         }
-        None => told(heap, number, 'P', "U", 0, &found),
+        Goal::Plan(_) => {
+            let game = PlanGame::new(problem).unwrap();
+            searched(heap, number, game, &mut [Frame::blank(); 65])
+        }
     }
 }
 
 fn main(rt: HostRuntime) -> io::Result<()> {
     let heap = rt.alloc();
     let mut input = BufReader::new(heap, rt.stdin())?;
-    let mut bytes = Vec::new(heap);
-    for number in 1..u64::MAX {
-        bytes.clear();
-        if input.read_until(b'\n', &mut bytes)? == 0 {
-            break;
-        }
-        let text = answers::without_line_feed(bytes.as_slice());
-        rt.println(line(heap, number, text)?)?;
-    }
-    Ok(())
+    answer_lines(heap, &mut input, &mut rt.stdout(), |number, text| {
+        Ok(Some(line(heap, number, text)?))
+    })
 }

@@ -5,128 +5,114 @@
 #![tactic(auto)]
 
 use analyst::Analyst;
-use bitsets::BitSet;
-use deals::{PlanGame, TrickGame};
-use games::Game;
-use lattice::Lattice;
-use lattice::family::Family;
-use lattice::tricks::Tricks;
+use answers::hex::hex;
+use answers::input::answer_lines;
+use deals::{Aim, CardGame, MostTricks};
+use lines::{Problem, Target};
 use policies::{Highest, Lowest, Policy, Recent};
 use search::{Frame, SearchStack};
-use session::{Stops, refusals, stop_everywhere};
-use solver::once::whole;
+use session::{Answer, Stops, code, refusals, stop_everywhere};
 use solver::solve;
-use std::alloc::Global;
+use std::alloc::{AllocError, Global};
 use std::io;
-use std::io::{BufRead, BufReader};
-use tables::{Direct, Empty, Front, Table};
+use std::io::BufReader;
+use tables::{Claim, Direct, Empty, Front};
 
 mod own;
 mod session;
 mod tickets;
 
-/// What a line's session comes to.
+/// What a line's session comes to: the code of the value without a table, what the calls answered, and the stops.
 #[derive(Drop)]
 struct Report {
     code: Option<u64>,
-    first: [u8; 7],
-    open: [u8; 8],
+    first: [Answer; 7],
+    open: [Answer; 8],
     stops: Stops,
 }
 
-/// A place for an open position.
-fn blank<S: Lattice>() -> Frame<S> {
-    Frame {
-        window: whole(),
-        found: whole(),
-        taken: BitSet::EMPTY,
-        last: None,
-    }
-}
-
-/// The session of a game: the value without a table, the refusals, and stops after every step.
-fn session_of<G: Game + Drop, T: Table, P: Policy>(
-    plain: G,
-    offered: G,
-    analyst: &mut Analyst<G, T, P>,
-    second: &mut Analyst<G, T, P>,
-    stack: &mut SearchStack<'_, G::Score>,
-    other: &mut SearchStack<'_, G::Score>,
-    small: &mut SearchStack<'_, G::Score>,
-) -> Report {
-    let (code, steps) = match solve(plain, Empty, Lowest, 1, stack, u32::MAX) {
-        Ok(found) => match found.value {
-            Some(value) => (Some(value.code()), found.steps),
-            None => (None, found.steps),
-        },
+/// The session of a problem, over places for two tables and frames for three stacks; none where it sets another aim.
+fn session_of<A: Aim, P: Policy + Copy + Drop>(
+    problem: &Problem,
+    policy: P,
+    (places, more): (&mut [Option<Claim>], &mut [Option<Claim>]),
+    frames: &mut [Frame<A::Score>],
+    others: &mut [Frame<A::Score>],
+    few: &mut [Frame<A::Score>],
+) -> Option<Report> {
+    // Stays `let .. else`, here and below: by `ok()` and `?` the checker made no proof of a value that holds layouts.
+    let Ok(plain) = CardGame::<A>::new(*problem) else {
+        return None;
+    };
+    let Ok(offered) = CardGame::<A>::new(*problem) else {
+        return None;
+    };
+    let Ok(analysed) = CardGame::<A>::new(*problem) else {
+        return None;
+    };
+    let Ok(second) = CardGame::<A>::new(*problem) else {
+        return None;
+    };
+    let table = Front::new(Direct::new(places));
+    let mut analyst = Analyst::new(analysed, table, Recent::new(policy));
+    let below = Front::new(Direct::new(more));
+    let mut other = Analyst::new(second, below, Recent::new(policy));
+    let mut stack = SearchStack::new(frames);
+    let (code, steps) = match solve(plain, Empty, Lowest, 1, &mut stack, u32::MAX) {
+        Ok(found) => (code(found.ended.value), found.steps),
         Err(_) => (None, 0),
     };
-    let (first, open) = refusals(analyst, second, offered, stack, other, small);
-    let stops = stop_everywhere(analyst, stack, steps, code);
-    Report {
+    let (first, open) = refusals(
+        &mut analyst,
+        &mut other,
+        offered,
+        &mut stack,
+        &mut SearchStack::new(others),
+        &mut SearchStack::new(few),
+    );
+    let stops = stop_everywhere(&mut analyst, &mut stack, steps, code);
+    Some(Report {
         code,
         first,
         open,
         stops,
-    }
+    })
 }
 
-/// The session of a problem that asks for tricks; none for any other line.
-fn by_tricks(line: &[u8]) -> Option<Report> {
-    let analysed = TrickGame::new(lines::read(line).ok()?).ok()?;
-    let second = TrickGame::new(lines::read(line).ok()?).ok()?;
-    let plain = TrickGame::new(lines::read(line).ok()?).ok()?;
-    let offered = TrickGame::new(lines::read(line).ok()?).ok()?;
-    let mut places = [None; 7];
-    let mut more = [None; 7];
-    let mut frames = [blank::<Tricks>(); 65];
-    let mut others = [blank::<Tricks>(); 65];
-    let mut few = [blank::<Tricks>(); 4];
-    let table = Front::new(Direct::new(&mut places));
-    let below = Front::new(Direct::new(&mut more));
-    let mut analyst = Analyst::new(analysed, table, Recent::new(Highest));
-    let mut other = Analyst::new(second, below, Recent::new(Highest));
-    Some(session_of(
-        plain,
-        offered,
-        &mut analyst,
-        &mut other,
-        &mut SearchStack::new(&mut frames),
-        &mut SearchStack::new(&mut others),
-        &mut SearchStack::new(&mut few),
-    ))
+/// The session of a line; none where it is no problem.
+fn of_line(line: &[u8]) -> Option<Report> {
+    let Ok(problem) = lines::read(line) else {
+        return None;
+    };
+    session_of::<MostTricks, Highest>(
+        &problem,
+        Highest,
+        (&mut [None; 7], &mut [None; 7]),
+        &mut [Frame::blank(); 65],
+        &mut [Frame::blank(); 65],
+        &mut [Frame::blank(); 4],
+    )
+    .or_else(|| {
+        session_of::<Target, Lowest>(
+            &problem,
+            Lowest,
+            (&mut [None; 61], &mut [None; 61]),
+            &mut [Frame::blank(); 65],
+            &mut [Frame::blank(); 65],
+            &mut [Frame::blank(); 4],
+        )
+    })
 }
 
-/// The session of a problem that asks for a plan; none for any other line.
-fn by_plan(line: &[u8]) -> Option<Report> {
-    let analysed = PlanGame::new(lines::read(line).ok()?).ok()?;
-    let second = PlanGame::new(lines::read(line).ok()?).ok()?;
-    let plain = PlanGame::new(lines::read(line).ok()?).ok()?;
-    let offered = PlanGame::new(lines::read(line).ok()?).ok()?;
-    let mut places = [None; 61];
-    let mut more = [None; 61];
-    let mut frames = [blank::<Family>(); 65];
-    let mut others = [blank::<Family>(); 65];
-    let mut few = [blank::<Family>(); 4];
-    let table = Front::new(Direct::new(&mut places));
-    let below = Front::new(Direct::new(&mut more));
-    let mut analyst = Analyst::new(analysed, table, Recent::new(Lowest));
-    let mut other = Analyst::new(second, below, Recent::new(Lowest));
-    Some(session_of(
-        plain,
-        offered,
-        &mut analyst,
-        &mut other,
-        &mut SearchStack::new(&mut frames),
-        &mut SearchStack::new(&mut others),
-        &mut SearchStack::new(&mut few),
-    ))
-}
-
-/// Some numbers, each with a comma before it.
-fn listed(heap: Global, numbers: &[u8]) -> io::Result<String> {
+/// Some answers, each with a comma before it: the number of the refusal, or 0.
+// Stays a function, as the one below: the lines are this program's alone, and a Display would be longer.
+fn listed(heap: Global, answers: &[Answer]) -> Result<String, AllocError> {
     let mut text = String::new(heap);
-    for number in numbers {
+    for answer in answers {
+        let number = match answer {
+            Ok(()) => 0,
+            Err(refusal) => refusal.number(),
+        };
         let one = format!(in heap; ",{number}")?;
         text.push_str(one.as_str())?;
     }
@@ -134,11 +120,11 @@ fn listed(heap: Global, numbers: &[u8]) -> io::Result<String> {
 }
 
 /// The lines for a report.
-fn told(heap: Global, number: u64, report: &Report) -> io::Result<String> {
+fn told(heap: Global, number: u64, report: &Report) -> Result<String, AllocError> {
     let first = listed(heap, &report.first)?;
     let open = listed(heap, &report.open)?;
     let value = match report.code {
-        Some(code) => answers::hex::hex(heap, code)?,
+        Some(code) => hex(heap, code)?,
         None => String::from_str(heap, "U")?,
     };
     let count = report.stops.count;
@@ -147,24 +133,16 @@ fn told(heap: Global, number: u64, report: &Report) -> io::Result<String> {
     } else {
         "differed"
     };
-    Ok(format!(in heap; "{number},refusals{first}{open}\n{number},stops,{value},{count},{agreed}")?)
+    format!(in heap; "{number},refusals{first}{open}\n{number},stops,{value},{count},{agreed}")
 }
 
 fn main(rt: HostRuntime) -> io::Result<()> {
     let heap = rt.alloc();
     let mut input = BufReader::new(heap, rt.stdin())?;
-    let mut bytes = Vec::new(heap);
-    for number in 1..u64::MAX {
-        bytes.clear();
-        if input.read_until(b'\n', &mut bytes)? == 0 {
-            break;
-        }
-        let line = answers::without_line_feed(bytes.as_slice());
-        if let Some(report) = by_tricks(line) {
-            rt.println(told(heap, number, &report)?)?;
-        } else if let Some(report) = by_plan(line) {
-            rt.println(told(heap, number, &report)?)?;
-        }
-    }
-    Ok(())
+    answer_lines(heap, &mut input, &mut rt.stdout(), |number, line| {
+        Ok(match of_line(line) {
+            Some(report) => Some(told(heap, number, &report)?),
+            None => None,
+        })
+    })
 }

@@ -1,7 +1,7 @@
 //! Two programs that use their tickets as they must. The gate also tries two that do not: one that drops its ticket after
 //! a finished run, and one that runs on an ended ticket.
 
-use crate::own;
+use crate::own::{Own, end};
 use analyst::{Analyst, Ended, Refusal};
 use games::Game;
 use lattice::Lattice;
@@ -17,11 +17,12 @@ pub(crate) fn ends_late<G: Game + Drop, T: Table, P: Policy>(
     window: Bracket<G::Score>,
     stack: &mut SearchStack<'_, G::Score>,
 ) -> Result<Ended<G::Score>, Refusal> {
-    let ticket = own::begin(analyst, job, window, stack)?;
-    own::run(analyst, &ticket, stack, u32::MAX);
-    own::clear(analyst, &ticket, stack);
-    own::run(analyst, &ticket, stack, 1);
-    Ok(own::end(analyst, ticket, stack))
+    let mut search = Own::begin(analyst, job, window, stack)?;
+    search.run(u32::MAX);
+    search.clear();
+    search.run(1);
+    let (analyst, ticket, stack) = search.parts();
+    Ok(end(analyst, ticket, stack))
 }
 
 /// Begins again: a search that is stopped early, and one to its end.
@@ -32,10 +33,12 @@ pub(crate) fn begins_again<G: Game + Drop, T: Table, P: Policy>(
     stack: &mut SearchStack<'_, G::Score>,
     steps: u32,
 ) -> Result<(Ended<G::Score>, Ended<G::Score>), Refusal> {
-    let ticket = own::begin(analyst, job, window, stack)?;
-    own::run(analyst, &ticket, stack, steps);
-    let stopped = own::end(analyst, ticket, stack);
-    let next = own::begin(analyst, job.saturating_add(1), window, stack)?;
-    own::run(analyst, &next, stack, u32::MAX);
-    Ok((stopped, own::end(analyst, next, stack)))
+    let mut search = Own::begin(analyst, job, window, stack)?;
+    search.run(steps);
+    let (analyst, ticket, stack) = search.parts();
+    let stopped = end(analyst, ticket, stack);
+    let mut next = Own::begin(analyst, job.saturating_add(1), window, stack)?;
+    next.run(u32::MAX);
+    let (analyst, ticket, stack) = next.parts();
+    Ok((stopped, end(analyst, ticket, stack)))
 }

@@ -2,20 +2,13 @@
 
 #![tactic(auto)]
 
+use answers::input::answer_all;
+use findings::BySearch;
 use std::io;
-use std::io::{BufRead, BufReader};
+use std::io::BufReader;
 
 fn main(rt: HostRuntime) -> io::Result<()> {
     let heap = rt.alloc();
     let mut input = BufReader::new(heap, rt.stdin())?;
-    let mut line = Vec::new(heap);
-    for number in 1..u64::MAX {
-        line.clear();
-        if input.read_until(b'\n', &mut line)? == 0 {
-            break;
-        }
-        let text = answers::without_line_feed(line.as_slice());
-        rt.println(findings::answer(heap, number, text)?)?;
-    }
-    Ok(())
+    answer_all(heap, &mut input, &mut rt.stdout(), &BySearch)
 }
