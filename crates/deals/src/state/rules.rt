@@ -163,9 +163,11 @@ impl State {
     pub fn legal(&self, problem: &Problem) -> CardSet
         ensures { result ≡ legal_set (dealt_of problem.now) (play_of self.now) }
     {
+        // A copy, as the loop would read the state behind the reference anew for each layout.
+        let state = *self;
         let mut cards = CardSet::EMPTY;
         for place in 0..LAYOUTS {
-            cards = cards.union(self.legal_in(problem, place));
+            cards = cards.union(state.legal_in(problem, place));
         }
         cards
     }
@@ -174,9 +176,11 @@ impl State {
     fn live_after(&self, problem: &Problem, card: Card) -> BitSet
         ensures { result.0 ≡ live_after (dealt_of problem.now) (play_of self.now) (card_code card) }
     {
+        // A copy, as above.
+        let state = *self;
         let mut live = BitSet::EMPTY;
         for place in 0..LAYOUTS {
-            live = with_legal(live, place, self.legal_in(problem, place), card);
+            live = with_legal(live, place, state.legal_in(problem, place), card);
         }
         live
     }
