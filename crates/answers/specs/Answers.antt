@@ -30,10 +30,14 @@ abbrev pub value_text : ℕ → List ℕ → List ℕ → ℕ → List ℕ
 value_text n kind value positions =
     decimal n ++ (codes "," ++ (kind ++ (codes "," ++ (value ++ (codes "," ++ decimal positions)))))
 
+-- line,kind,U,0
+abbrev pub open_text : ℕ → List ℕ → List ℕ
+open_text n kind = decimal n ++ (codes "," ++ (kind ++ codes ",U,0"))
+
 -- hands of at most four cards are solved: the plain value and the size of the tree; larger ones are left open
 abbrev pub game_text : {C : Type 0} → List ℕ → (C → List ℕ) → ℕ → ℕ → C → ℕ → List ℕ
 game_text kind shown n cards value positions =
-    cond (nat_lt 4 cards) (decimal n ++ (codes "," ++ (kind ++ codes ",U,0")))
+    cond (nat_lt 4 cards) (open_text n kind)
     (value_text n kind (shown value) (capped positions))
 
 -- the tree of a deal's first position, for the trick game and for the plan game with a target

@@ -9,18 +9,22 @@ use std::alloc::{AllocError, Global};
 use std::io;
 use std::io::{BufRead, Write};
 
-/// Writes a text and a line feed; nothing where there is no text.
+/// Writes a text and a line feed, through a buffered output too; nothing where there is no text.
 fn write_line<W: Write>(output: &mut W, text: Option<String>) -> io::Result<()>
     ensures { OnOk result (Appends (W.contents output.old) (W.contents output.new) (one_line string_bytes text)) }
 {
     match text {
-        Some(text) => writeln!(output, "{text}"),
+        Some(text) => {
+            writeln!(output, "{text}")?;
+            output.flush()
+        }
         None => Ok(()),
     }
 }
 
 /// Reads an input to its end and writes, for each of its lines, what is answered to the line's number, from 1, and the line
-/// without the line feed that ends it: a text, which is written with a line feed, or nothing.
+/// without the line feed that ends it: a text, which is written with a line feed, or nothing. The output is flushed after
+/// each text, so that a buffered one, as a program's should be, gets each line in one write and before the next is read.
 /// An input of 2^64 - 2 lines or more is an error.
 #[tactic(auto, using(crate::proofs::Lines::begun))]
 pub fn answer_lines<R: BufRead, W: Write, F: Fn(u64, &[u8]) -> io::Result<Option<String>>>(
@@ -71,6 +75,40 @@ pub fn answer_all<R: BufRead, W: Write, A: Answering>(
 #[cfg(test)]
 mod tests {
     use super::answer_lines;
+    use std::io;
+    use std::io::{BufWriter, Write};
+
+    /// Takes all that is written, and counts the writes.
+    #[derive(Drop)]
+    struct Writes {
+        count: u32,
+    }
+
+    impl Write for Writes {
+        fn write(&mut self, bytes: &[u8]) -> io::Result<usize> {
+            self.count = self.count.saturating_add(1);
+            Ok(bytes.len())
+        }
+
+        fn flush(&mut self) -> io::Result<()> {
+            Ok(())
+        }
+    }
+
+    #[test]
+    fn writes_each_line_at_once(rt: HostRuntime) {
+        let heap = rt.alloc();
+        let mut input: &[u8] = b"one\ntwo\nthree";
+        let Ok(mut output) = BufWriter::new(heap, Writes { count: 0 }) else {
+            assert!(rt; false);
+            return;
+        };
+        let done = answer_lines(heap, &mut input, &mut output, |number, _line| {
+            Ok(Some(format!(in heap; "{number}")?))
+        });
+        assert!(rt; done.is_ok());
+        assert!(rt; output.get_ref().count == 3);
+    }
 
     #[test]
     fn leaves_lines_out(rt: HostRuntime) {

@@ -3,15 +3,18 @@
 #![tactic(auto)]
 
 ghost use Rattle.std.specs.Prelude.{◌≡◌, IfOk, string_bytes};
-ghost use Rattle.answers.specs.Answers.{line_text, fault_text, game_text, answer_text};
-ghost use Rattle.games.specs.Trees.{plain, size};
-ghost use Rattle.deals.specs.Games.{game_line};
+ghost use Rattle.answers.specs.Answers.{line_text, fault_text, value_text, open_text, tricks_answer, plan_answer, answer_text};
+ghost use Rattle.lines.specs.Deals.{tricks, plan};
 ghost use Rattle.lines.specs.Faults.{fault_number};
 ghost use Rattle.lines.specs.Reading.{read_line};
+ghost use Rattle.lines.specs.Told.{deal_of};
 
-use deals::{Aim, CardGame, PlanGame, TrickGame};
-use games::evaluate::evaluate;
-use lines::{Fault, Goal};
+use deals::plans::beaten_sets;
+use deals::{PlanGame, TrickGame};
+use games::evaluate::{Evaluation, evaluate};
+use lattice::family::Family;
+use lattice::tricks::Tricks;
+use lines::{Fault, Goal, Problem};
 use std::alloc::{AllocError, Global};
 
 pub mod hex;
@@ -41,27 +44,48 @@ pub fn fault_line(heap: Global, number: u64, fault: Fault) -> Result<String, All
     format!(in heap; "{number},E,{fault}")
 }
 
-/// The line for a game: its number, the letter of its scores, the value of its present position and the number of
-/// positions, or U and 0 where the hands are not small.
-fn of_game<A: Aim>(
-    heap: Global,
-    number: u64,
-    cards: u32,
-    mut game: CardGame<A>,
-) -> Result<String, AllocError>
-where
-    A::Score: Shown,
-    ensures { IfOk result (λ s. string_bytes s ≡ game_text A.Score.Shown.letter (λ v. A.Score.Shown.shown (A.Score.Lattice.scoring.code v)) number cards
-        (plain A.Score.Lattice.scoring A.Score.Lattice.stands (game_line A.worth game).present) (size (game_line A.worth game).present)) }
+/// The line for a game whose hands are small: its number, the letter of its scores, the value of its present position and
+/// the number of positions.
+fn of_found<S: Shown>(heap: Global, number: u64, found: Evaluation<S>) -> Result<String, AllocError>
+    ensures { IfOk result (λ s. string_bytes s ≡ value_text number S.Shown.letter (S.Shown.shown (S.Lattice.scoring.code (S.Lattice.stands found.value))) found.positions) }
 {
-    let letter = A::Score::letter();
-    if cards > SMALL {
-        return format!(in heap; "{number},{letter},U,0");
-    }
-    let found = evaluate(&mut game);
+    let letter = S::letter();
     let value = found.value.shown(heap)?;
     let positions = found.positions;
     format!(in heap; "{number},{letter},{value},{positions}")
+}
+
+/// The line for a game whose hands are not small.
+fn left_open<S: Shown>(heap: Global, number: u64) -> Result<String, AllocError>
+    ensures { IfOk result (λ s. string_bytes s ≡ open_text number S.Shown.letter) }
+{
+    let letter = S::letter();
+    format!(in heap; "{number},{letter},U,0")
+}
+
+/// The line for a problem that asks for tricks.
+fn by_tricks(heap: Global, number: u64, problem: Problem) -> Result<String, AllocError>
+    requires { (deal_of problem).asked ≡ tricks }
+    ensures { IfOk result (λ s. string_bytes s ≡ tricks_answer number (deal_of problem)) }
+{
+    // The game is made only where it is played: it is large.
+    if problem.cards() > SMALL {
+        return left_open::<Tricks>(heap, number);
+    }
+    let mut game = TrickGame::new(problem).unwrap();
+    of_found(heap, number, evaluate(&mut game))
+}
+
+/// The line for a problem that asks for a plan, with the family of the sets of layouts that one plan beats.
+fn by_plan(heap: Global, number: u64, problem: Problem, target: u8) -> Result<String, AllocError>
+    requires { (deal_of problem).asked ≡ plan target }
+    ensures { IfOk result (λ s. string_bytes s ≡ plan_answer number target (deal_of problem)) }
+{
+    if problem.cards() > SMALL {
+        return left_open::<Family>(heap, number);
+    }
+    let mut game = PlanGame::new(problem).unwrap();
+    of_found(heap, number, beaten_sets(&mut game))
 }
 
 /// The answer to a problem line: its number, the kind, the value of its deal and the number of positions, or U and 0
@@ -73,11 +97,10 @@ pub fn answer(heap: Global, number: u64, line: &[u8]) -> Result<String, AllocErr
         Ok(problem) => problem,
         Err(fault) => return fault_line(heap, number, fault),
     };
-    let cards = problem.cards();
     // Stays a match in each crate that takes problems: the two games are two types, and no closure takes both.
     match problem.goal() {
-        Goal::Tricks => of_game(heap, number, cards, TrickGame::new(problem).unwrap()),
-        Goal::Plan(_) => of_game(heap, number, cards, PlanGame::new(problem).unwrap()),
+        Goal::Tricks => by_tricks(heap, number, problem),
+        Goal::Plan(target) => by_plan(heap, number, problem, target.0),
     }
 }
 

@@ -1,5 +1,5 @@
 -- Which of two cards is the better one.
-use Rattle.std.proofs.Common.{◌≡◌, ℕ, ◌<◌, ltb, Bool, true, false, List, Some, None, Option, sym, ◌∙◌, arith, rules}
+use Rattle.std.proofs.Common.{◌≡◌, ℕ, ◌<◌, eqb, ltb, Bool, true, false, List, Some, None, Option, sym, ap, ◌∙◌, arith, rules}
 use Rattle.std.proofs.lemmas.Bool.{eqb-true}
 use Rattle.std.proofs.lemmas.Bool.Decides.{nat_tests}
 use Rattle.std.specs.Option.{option_map, option_eq}
@@ -38,6 +38,11 @@ module _ (ls : List Layout) (n : ℕ) (a b : Card) where
   by_rank None e = simp (code_suit, code_rank) (grind (arith, nat_tests))
   by_rank (Some t) e = simp (code_suit, code_rank) (grind (arith, nat_tests))
 
+  of_another : (t : ℕ) → (suit_code a.suit ≡ suit_code b.suit → ⊥)
+      → eqb (suit_code a.suit) t ≡ beats (of_trump (Some t)) (card_code a) (card_code b)
+  unfolding of_trump
+  of_another t n = simp (code_suit, code_rank) (grind (arith, nat_tests))
+
   -- no card is beaten by one of another suit unless that is a trump
   by_trump : (o : Option Suit) → (suit_code a.suit ≡ suit_code b.suit → ⊥)
       → option_eq suit_eq.it o (Some a.suit) ≡ beats (of_trump (option_map suit_code o)) (card_code a) (card_code b)
@@ -45,14 +50,26 @@ module _ (ls : List Layout) (n : ℕ) (a b : Card) where
   by_trump None n = simp (code_suit, code_rank) (grind (arith, nat_tests))
   by_trump (Some t) n = let e = suit_same t a.suit in e ∙ simp (code_suit, code_rank) (grind (arith, nat_tests))
 
--- of one suit the higher card is the better one, and of two suits only a trump beats the other card
+-- of one suit the higher card is the better one, and of two suits only a trump beats the other card: for every deal
+pub same_suit : (d : Dealt) (a b : Card) → suit_code a.suit ≡ suit_code b.suit
+    → ltb (rank_code b.rank) (rank_code a.rank) ≡ beats d (card_code a) (card_code b)
+unfolding of_trump
+same_suit d a b = by_rank d.layouts d.leader a b d.trump
+
+pub other_suit : (d : Dealt) (a b : Card) (t : ℕ) → d.trump ≡ Some t → (suit_code a.suit ≡ suit_code b.suit → ⊥)
+    → eqb (suit_code a.suit) t ≡ beats d (card_code a) (card_code b)
+unfolding of_trump
+other_suit d a b t e n =
+    of_another d.layouts d.leader a b t n ∙ ap (λ (o : Option ℕ). beats (of_trump d.layouts d.leader a b o) (card_code a) (card_code b)) (sym e)
+
+-- the same for the deal of a problem, by what the code compares
 module _ (p : Problem) (a b : Card) (x : Bool) where
   pub higher_rank : x ≡ partial_gt rank_cmp.it a.rank b.rank → sameb suit_type a.suit b.suit ≡ true
       → x ≡ beats (dealt_of p) (card_code a) (card_code b)
   unfolding of_trump
   higher_rank e s =
       let d = dealt_of p in
-      e ∙ rank_above a.rank b.rank ∙ by_rank d.layouts d.leader a b d.trump (eqb-true _ _ (sym (suit_same a.suit b.suit) ∙ s))
+      e ∙ rank_above a.rank b.rank ∙ same_suit d a b (eqb-true _ _ (sym (suit_same a.suit b.suit) ∙ s))
 
   pub trumped : x ≡ option_eq suit_eq.it (trump_suit_of p) (Some a.suit) → sameb suit_type a.suit b.suit ≡ false
       → x ≡ beats (dealt_of p) (card_code a) (card_code b)

@@ -1,12 +1,14 @@
 -- The layouts of a deal, one after the other.
-use Rattle.std.proofs.Common.{◌≡◌, ℕ, zero, suc, ◌+◌, ◌^◌, ◌<◌, ◌≤◌, Bool, true, false, cond, ◌&&◌, ◌||◌, eqb, ltb, List, [], ◌∷◌, map, length, get_or, take, drop, sym, refl, ap, ◌∙◌, add-zero, pow-suc, add-one, arith, drop_of_length-le, length-take, bit_and, bit_or}
+use Rattle.std.proofs.Common.{◌≡◌, ℕ, zero, suc, ◌+◌, ◌^◌, ◌<◌, ◌≤◌, Bool, true, false, cond, ◌&&◌, ◌||◌, eqb, ltb, List, [], ◌∷◌, map, length, get_or, take, drop, Some, None, Option, sym, refl, ap, ◌∙◌, add-zero, pow-suc, add-one, arith, drop_of_length-le, length-take, bit_and, bit_or}
 use Rattle.std.specs.Int.Bits.{and_zero_l, or_zero_r}
-use Rattle.std.specs.Option.{unwrap_or}
+use Rattle.std.specs.Option.{option_map, unwrap_or}
 use Rattle.std.proofs.lemmas.List.{length-map}
 use Rattle.std.proofs.lemmas.Bool.{cond-true, cond-false, and_right}
 use Rattle.std.proofs.lemmas.Bool.Decides.{nat_tests}
 use Rattle.bitsets.specs.Sets.{has}
 use Rattle.bitsets.proofs.Digits.{has_or, has_pow, has_zero, has_ext, or_assoc, has_high, or_pow_new}
+use Rattle.cards.specs.declared.set.CardSet.{CardSet}
+use Rattle.cards.specs.Numbers.{bits_of}
 use Rattle.lines.specs.declared.problem.Problem.{Problem}
 use Rattle.lines.specs.Deals.{Defence, Deal, seat_hand, hand_among}
 use Rattle.lines.specs.Problems.{defence}
@@ -40,8 +42,10 @@ among d [] i k = empty_hand k
 among d (l ∷ ls) zero k = beside d l k
 among d (l ∷ ls) (suc i) k = among d ls i k
 
-pub dealt_hand : (d : Deal) (i k : ℕ) → unwrap_or (hand_among d d.layouts i k) 0 ≡ hand (get_or (map (four_hands d) d.layouts) i nowhere) k
-dealt_hand d i k = sym (among d d.layouts i k)
+pub dealt_hand : (d : Deal) (i k : ℕ) (o : Option CardSet) (n : CardSet) → option_map bits_of o ≡ hand_among d d.layouts i k → bits_of n ≡ 0
+    → bits_of (unwrap_or o n) ≡ hand (get_or (map (four_hands d) d.layouts) i nowhere) k
+dealt_hand d i k None n e z = z ∙ ap (λ (h : Option ℕ). unwrap_or h 0) e ∙ sym (among d d.layouts i k)
+dealt_hand d i k (Some h) n e z = ap (λ (h : Option ℕ). unwrap_or h 0) e ∙ sym (among d d.layouts i k)
 
 -- ---- there are at most six
 

@@ -32,10 +32,10 @@ use Rattle.deals.proofs.Values.{plan_value}
 use Rattle.std.proofs.lemmas.Option.{none-some}
 use Rattle.analyst.proofs.Results.{some_same}
 use Rattle.solver.specs.declared.once.Solved.{Solved}
-use Rattle.solver.specs.Solving.{finds, SolvedRight}
-use Rattle.solver.proofs.Right.{finds_right}
+use Rattle.solver.specs.Solving.{is_finished, finds, SolvedRight}
+use Rattle.solver.proofs.Right.{finds_ends, finds_right}
 use Rattle.findings.specs.Right.{TricksRight, PlanRight, DealRight, AnswerRight}
-use Rattle.findings.specs.Searched.{granted, table_ops, policy_ops, table_over, new_policy, searched}
+use Rattle.findings.specs.Searched.{granted, table_ops, policy_ops, table_over, new_policy, searched, searched_to_end}
 
 -- no deal has more than 52 cards, and the stack has 65 places
 first_low : {S : Type 0} (score : Play → S) (d : Dealt) → ValidDeal d → height_of (position d score (first_play d)) < 65
@@ -57,6 +57,10 @@ module _ {S C : Type 0} (o : Scoring C) (st : S → C) (law : Laws o) (score : P
   found_is : searched o st (line_of score (first_stand d)) n steps ≡ Ok all
   found_is = asked_yes (ltb 0 n) (ltb (height_of (position d score (first_play d))) 65) _ _ all (lt-ltb 0 n some) (lt-ltb _ 65 (first_low score d v))
 
+  found_ends : is_finished all ≡ searched_to_end o st (line_of score (first_stand d)) steps
+  found_ends =
+      finds_ends o st table_ops policy_ops (line_of score (first_stand d)) (table_over (replicate 61 None)) new_policy 65 steps
+
   found_right : SolvedRight o st (position d score (first_play d)) steps all
   found_right =
       finds_right o st table_ops policy_ops law (layered_laws place_ops place_ops place_laws place_laws) (recent_laws highest_ops highest_laws)
@@ -72,6 +76,7 @@ tricks_right : (n : ℕ) → 0 < n → (d : Deal) → Valid d → TricksRight n 
 tricks_right n some d v = record {
   found = all trick_scoring tricks_of trick_laws tricks_won (dealt d) (valid_dealt d v) n some granted;
   is = found_is trick_scoring tricks_of trick_laws tricks_won (dealt d) (valid_dealt d v) n some granted;
+  ends = found_ends trick_scoring tricks_of trick_laws tricks_won (dealt d) (valid_dealt d v) n some granted;
   right = found_right trick_scoring tricks_of trick_laws tricks_won (dealt d) (valid_dealt d v) n some granted;
 }
 
@@ -82,6 +87,7 @@ plan_right n some t d v =
     record {
       found = all family_scoring family_of family_laws (sets_made t) (dealt d) (valid_dealt d v) n some granted;
       is = found_is family_scoring family_of family_laws (sets_made t) (dealt d) (valid_dealt d v) n some granted;
+      ends = found_ends family_scoring family_of family_laws (sets_made t) (dealt d) (valid_dealt d v) n some granted;
       right = r;
       plans = λ f e.
           subst (Beaten (first_stand (dealt d)) t) (sym (plan_value (dealt d) t p) ∙ had _ _ f (sym r.value ∙ e))

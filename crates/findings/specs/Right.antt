@@ -8,14 +8,16 @@ use Rattle.cardplay.specs.Dealing.{dealt}
 use Rattle.deals.specs.Plans.{Beaten}
 use Rattle.deals.specs.Stands.{first_stand}
 use Rattle.solver.specs.declared.once.Solved.{Solved}
-use Rattle.solver.specs.Solving.{SolvedRight}
-use Rattle.findings.specs.Searched.{granted, tricks_line, plan_line, tricks_solved, plan_solved}
+use Rattle.solver.specs.Solving.{is_finished, SolvedRight}
+use Rattle.findings.specs.Searched.{granted, searched_to_end, tricks_line, plan_line, tricks_solved, plan_solved}
 
--- the search of a line that asks for tricks is not refused, and what it finds is right for the deal's first position
+-- the search of a line that asks for tricks is not refused, and what it finds is right for the deal's first position;
+-- it has a value, and the line says finished, exactly where the search itself is at its end
 pub record TricksRight (n : ℕ) (d : Deal) : Type 0 where
   pub found : Solved TrickScore
   pub is : tricks_solved n d granted ≡ Ok found
   pub right : SolvedRight trick_scoring tricks_of (tricks_line d).present granted found
+  pub ends : is_finished found ≡ searched_to_end trick_scoring tricks_of (tricks_line d) granted
 
 -- the same of a line that asks for a plan; a value holds a set of layouts exactly when one plan from the first position
 -- makes the target in each of them
@@ -23,6 +25,7 @@ pub record PlanRight (n t : ℕ) (d : Deal) : Type 0 where
   pub found : Solved FamilyScore
   pub is : plan_solved n t d granted ≡ Ok found
   pub right : SolvedRight family_scoring family_of (plan_line t d).present granted found
+  pub ends : is_finished found ≡ searched_to_end family_scoring family_of (plan_line t d) granted
   pub plans : (v : FamilyScore) → found.ended.value ≡ Some v → Beaten (first_stand (dealt d)) t v
 
 abbrev pub DealRight : ℕ → Asked → Deal → Type 0

@@ -1,6 +1,6 @@
 -- The search that the program makes of a problem: Front over Direct with 61 places, Recent over Highest, a stack of 65
 -- places, the whole window, the line's number as job, and one run.
-use Rattle.std.specs.Prelude.{ℕ, List, replicate, None, Option, Result}
+use Rattle.std.specs.Prelude.{ℕ, Bool, List, replicate, None, Option, Result}
 use Rattle.lattice.specs.declared.family.Family.{Family}
 use Rattle.lattice.specs.declared.tricks.Tricks.{Tricks}
 use Rattle.lattice.specs.Scores.{Scoring}
@@ -18,7 +18,7 @@ use Rattle.deals.specs.Stands.{first_stand, line_of}
 use Rattle.analyst.specs.declared.refusal.Refusal.{Refusal}
 use Rattle.analyst.specs.Calls.{free_stack}
 use Rattle.solver.specs.declared.once.Solved.{Solved}
-use Rattle.solver.specs.Solving.{solves}
+use Rattle.solver.specs.Solving.{ends_at, solves}
 
 -- the steps granted
 unfoldable pub granted : ℕ
@@ -41,6 +41,10 @@ new_policy = record { noticed = replicate 64 None; below = tt }
 -- the line n, with the positions l, searched for so many steps
 abbrev pub searched : {S C : Type 0} → Scoring C → (S → C) → Line S → ℕ → ℕ → Result (Solved C) Refusal
 searched o st l n steps = solves o st table_ops policy_ops l (table_over (replicate 61 None)) new_policy n (free_stack 65) steps
+
+-- whether that search is itself at its end once so many steps are granted: its stack is empty, and it holds a bracket
+abbrev pub searched_to_end : {S C : Type 0} → Scoring C → (S → C) → Line S → ℕ → Bool
+searched_to_end o st l steps = ends_at o st table_ops policy_ops l (table_over (replicate 61 None)) new_policy 65 steps
 
 -- what is found of a deal in the trick game, and in the plan game with a target
 abbrev pub tricks_line : Deal → Line Tricks

@@ -3,14 +3,16 @@
 #![tactic(auto)]
 
 ghost use Rattle.std.specs.Prelude.{◌≡◌, IfOk, string_bytes};
-ghost use Rattle.findings.specs.Findings.{answer_text};
+ghost use Rattle.findings.specs.Findings.{deal_text, answer_text};
 ghost use Rattle.findings.specs.Right.{AnswerRight};
+ghost use Rattle.lines.specs.Deals.{tricks, plan};
 ghost use Rattle.lines.specs.Reading.{read_line};
+ghost use Rattle.lines.specs.Told.{deal_of};
 
 use answers::fault_line;
 use answers::input::Answering;
 use deals::{PlanGame, TrickGame};
-use lines::Goal;
+use lines::{Goal, Problem};
 use search::Frame;
 use std::alloc::{AllocError, Global};
 
@@ -22,6 +24,24 @@ use searched::searched;
 /// The steps that a search is granted.
 const STEPS: u32 = 1_000_000;
 
+/// The line for the search of a problem that asks for tricks.
+fn by_tricks(heap: Global, number: u64, problem: Problem) -> Result<String, AllocError>
+    requires { (deal_of problem).asked ≡ tricks }
+    ensures { IfOk result (λ s. string_bytes s ≡ deal_text number tricks (deal_of problem)) }
+{
+    let game = TrickGame::new(problem).unwrap();
+    searched(heap, number, game, &mut [Frame::blank(); 65], STEPS)
+}
+
+/// The line for the search of a problem that asks for a plan.
+fn by_plan(heap: Global, number: u64, problem: Problem, target: u8) -> Result<String, AllocError>
+    requires { (deal_of problem).asked ≡ plan target }
+    ensures { IfOk result (λ s. string_bytes s ≡ deal_text number (plan target) (deal_of problem)) }
+{
+    let game = PlanGame::new(problem).unwrap();
+    searched(heap, number, game, &mut [Frame::blank(); 65], STEPS)
+}
+
 /// The text alone; `answer` adds that what it says is right.
 fn text(heap: Global, number: u64, line: &[u8]) -> Result<String, AllocError>
     ensures { IfOk result (λ s. string_bytes s ≡ answer_text number (read_line line.now)) }
@@ -31,15 +51,10 @@ fn text(heap: Global, number: u64, line: &[u8]) -> Result<String, AllocError>
         Err(fault) => return fault_line(heap, number, fault),
     };
     // Stays a match in each crate that takes problems: the two games are two types, and no closure takes both.
+    // Each has a function of its own, since a function clears all its memory at its beginning, faulty line or not.
     match problem.goal() {
-        Goal::Tricks => {
-            let game = TrickGame::new(problem).unwrap();
-            searched(heap, number, game, &mut [Frame::blank(); 65], STEPS)
-        }
-        Goal::Plan(_) => {
-            let game = PlanGame::new(problem).unwrap();
-            searched(heap, number, game, &mut [Frame::blank(); 65], STEPS)
-        }
+        Goal::Tricks => by_tricks(heap, number, problem),
+        Goal::Plan(target) => by_plan(heap, number, problem, target.0),
     }
 }
 

@@ -1,5 +1,5 @@
 -- The field at a place: from there to the next comma.
-use Rattle.std.proofs.Common.{◌≡◌, ℕ, zero, suc, ◌+◌, ◌-◌, ◌<◌, ◌≤◌, eqb, List, [], ◌∷◌, length, get_or, take, drop, sym, refl, ap, ◌∙◌, add-one, add-zero, zero-add, suc-add, arith, length-drop}
+use Rattle.std.proofs.Common.{◌≡◌, ℕ, zero, suc, ◌+◌, ◌-◌, ◌<◌, ◌≤◌, eqb, List, [], ◌∷◌, length, get_or, take, drop, sym, refl, ap, ◌∙◌, add-one, add-zero, zero-add, suc-add, arith, length-take, length-drop}
 use Rattle.std.proofs.lemmas.List.{take_all}
 use Rattle.std.proofs.lemmas.Bool.{eq-eqb, ne_eqb, cond-true, cond-false}
 use Rattle.lines.specs.Fields.{Spot, onto, split, split_from, past}
@@ -30,6 +30,9 @@ next_piece line a n lo =
   where
     rest_all : (line : List ℕ) (a : ℕ) → take (length line - a) (drop a line) ≡ drop a line
     rest_all line a = take_all (length line - a) (drop a line) (let l = length-drop a line in omega arith)
+
+pub piece_length : (line : List ℕ) (a e : ℕ) → a ≤ e → e ≤ length line → a + (length (take (e - a) (drop a line)) + 1) ≡ e + 1
+piece_length line a e lo hi = simp (length-take, length-drop) (omega arith)
 
 pub none_past : (line : List ℕ) (a : ℕ) → length line < a → split_from line a ≡ []
 none_past line zero h = absurd (omega arith)

@@ -1,6 +1,6 @@
 -- Reading the layouts of a line one after the other.
 use Rattle.std.specs.Option.{option_or}
-use Rattle.std.proofs.Common.{◌≡◌, ℕ, suc, ◌+◌, ◌-◌, ◌<◌, Option, List, [], ◌∷◌, ◌++◌, map, length, take, set, Some, Ok, Err, Result, sym, refl, ap, ◌∙◌, arith}
+use Rattle.std.proofs.Common.{◌≡◌, ℕ, zero, suc, ◌+◌, ◌-◌, ◌<◌, ◌≤◌, Option, List, [], ◌∷◌, ◌++◌, map, length, get_or, take, set, Some, Ok, Err, Result, sym, refl, ap, ◌∙◌, arith}
 use Rattle.std.proofs.lemmas.List.{take_more_set, map_push}
 use Rattle.lines.specs.declared.fault.Fault.{Fault}
 use Rattle.lines.specs.declared.deal.Layout.{Layout}
@@ -13,6 +13,13 @@ use Rattle.lines.specs.Reading.{then, first_cards, layout_at, layouts_at, nothin
 pub first_step : (ls : List Defence) (l : Defence) (u : ℕ) (o r : Option ℕ) → o ≡ first_cards ls → u ≡ both l → r ≡ option_or o (Some u) → r ≡ first_cards (ls ++ (l ∷ []))
 first_step [] l u o r e f g = cc
 first_step (m ∷ ls) l u o r e f g = cc
+
+-- the first layout's cards, once one is read
+pub first_of : (xs : List Layout) (n u : ℕ) (x : Layout) → (n ≡ 0 → ⊥) → n ≤ length xs → x ≡ get_or xs 0 x → u ≡ both (defence x)
+    → Some u ≡ first_cards (map defence (take n xs))
+first_of xs zero u x p l e f = absurd (p refl)
+first_of [] (suc n) u x p l e f = absurd (omega arith)
+first_of (y ∷ ys) (suc n) u x p l e f = ap Some (f ∙ ap (λ (z : Layout). both (defence z)) e)
 
 -- one more layout, written at the next place
 pub one_more : (xs : List Layout) (i : ℕ) (x : Layout) → i < length xs

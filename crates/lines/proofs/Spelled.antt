@@ -1,25 +1,18 @@
 -- Reading a hand card by card.
-use Rattle.std.proofs.Common.{◌≡◌, ℕ, ◌+◌, ◌-◌, ◌^◌, ◌≤◌, ltb, true, false, cond, List, [], ◌∷◌, length, get_or, take, drop, Some, None, Option, sym, ap, ◌∙◌, bit_or, arith, rules}
+use Rattle.std.proofs.Common.{◌≡◌, ℕ, ◌+◌, ◌-◌, ◌^◌, ◌≤◌, ltb, true, false, cond, List, [], ◌∷◌, length, get_or, take, drop, Some, None, Option, IfSome, sym, ap, ◌∙◌, bit_or, arith, rules}
 use Rattle.std.proofs.lemmas.List.{take_all}
 use Rattle.std.proofs.lemmas.Bool.{cond-true, cond-false}
-use Rattle.std.proofs.lemmas.Grind.{common_steps}
-use Rattle.std.specs.Option.{option_partial_cmp}
-use Rattle.std.specs.Ordering.{partial_le}
-use Rattle.cards.specs.contracts.card.CardPartialOrd.TheImpl.{partial_cmp-value as card_cmp}
-use Rattle.cards.specs.declared.card.Card.{Card}
-use Rattle.cards.specs.Codes.{card_code}
-use Rattle.cards.proofs.Order.{card_at_most}
 use Rattle.lines.specs.Spelling.{card_of, with_card, cards_from}
 
 -- the least code of a next card
-abbrev pub low_after : Option Card → ℕ
+abbrev pub low_after : Option ℕ → ℕ
 low_after None = 0
-low_after (Some c) = card_code c + 1
+low_after (Some c) = c + 1
 
--- whether a card does not come after the last one
-pub out_of_order : (c : Card) (last : Option Card) → partial_le (option_partial_cmp card_cmp.it) (Some c) last ≡ ltb (card_code c) (low_after last)
-out_of_order c None = search rules
-out_of_order c (Some d) = let e = card_at_most c d in grind (arith, common_steps)
+-- a code that is not at or below the last one is at least that
+pub in_order : (c : ℕ) (last : Option ℕ) → IfSome last (λ d. ltb d c ≡ true) → ltb c (low_after last) ≡ false
+in_order c None h = search rules
+in_order c (Some d) h = search rules
 
 module _ (low cards : ℕ) (h : Option ℕ) (c : ℕ) where
   one_card : (o : Option ℕ) (k : ℕ → Option ℕ) → with_card low o k ≡ h → o ≡ Some c → cond (ltb c low) None (k c) ≡ h

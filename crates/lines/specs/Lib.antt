@@ -2,6 +2,7 @@ pub mod Faults
 pub mod Fields
 pub mod Seats
 pub mod Spelling
+pub mod Counts
 pub mod Deals
 pub mod Problems
 pub mod Reading

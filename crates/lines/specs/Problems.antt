@@ -2,6 +2,7 @@
 use Rattle.std.specs.Prelude.{map, take}
 use Rattle.std.specs.Option.{option_map}
 use Rattle.cards.specs.Codes.{suit_code}
+use Rattle.cards.specs.Numbers.{bits_of}
 use Rattle.lines.specs.declared.deal.Goal.{Goal}
 use Rattle.lines.specs.declared.deal.Goal.TheVariants.{Tricks, Plan}
 use Rattle.lines.specs.declared.deal.Layout.{Layout}
@@ -14,7 +15,7 @@ asked_by Tricks = tricks
 asked_by (Plan t) = plan t.0
 
 abbrev pub defence : Layout → Defence
-defence l = record { hand1 = l.hand1; hand3 = l.hand3 }
+defence l = record { hand1 = bits_of l.hand1; hand3 = bits_of l.hand3 }
 
 -- the deal that the parts of a problem tell: the first `count` of the layouts are in use
 abbrev pub deal : Parts → Deal
@@ -23,7 +24,7 @@ deal p =
       asked = asked_by p.goal;
       trump = option_map suit_code p.trump;
       leader = seat_number p.leader;
-      hand0 = p.hand0;
-      hand2 = p.hand2;
+      hand0 = bits_of p.hand0;
+      hand2 = bits_of p.hand2;
       layouts = map defence (take p.count p.layouts);
     }

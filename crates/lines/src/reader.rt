@@ -1,6 +1,9 @@
 //! Reading a problem line field by field, from the left.
 
 ghost use Rattle.std.specs.Prelude.{◌≡◌, ◌≤◌, true, [], map, length, take, is_ok};
+ghost use Rattle.std.specs.Option.{option_map};
+ghost use Rattle.cards.specs.Numbers.{bits_of};
+ghost use Rattle.lines.specs.Counts.{listed};
 ghost use Rattle.lines.specs.Fields.{here, next_spot};
 ghost use Rattle.lines.specs.Places.{Placed};
 ghost use Rattle.lines.specs.Problems.{defence, deal};
@@ -33,7 +36,7 @@ fn field<T: Spelled + Drop>(fields: &mut Fields<'_>, bad: FaultKind) -> Result<T
 
 /// A hand as long as another, with no card of some earlier hands.
 fn hand(fields: &mut Fields<'_>, like: CardSet, earlier: CardSet) -> Result<CardSet, Fault>
-    ensures value { result ≡ hand_at (size like) earlier (here fields.old) }
+    ensures value { on_ok bits_of result ≡ hand_at (size (bits_of like)) (bits_of earlier) (here fields.old) }
     ensures goes { here fields.new ≡ next_spot (here fields.old) }
 {
     let place = fields.place();
@@ -84,7 +87,7 @@ fn tricks(fields: &mut Fields<'_>) -> Result<Parts, Fault>
 
 /// Whether a layout's cards are those of the first one, if there is one.
 fn agrees(first: Option<CardSet>, cards: CardSet) -> bool
-    ensures { result ≡ agrees first cards }
+    ensures { result ≡ agrees (option_map bits_of first) (bits_of cards) }
 {
     first.is_none_or(|first| cards == first)
 }
@@ -96,7 +99,7 @@ fn layout(
     hand2: CardSet,
     first: Option<CardSet>,
 ) -> Result<Layout, Fault>
-    ensures value { on_ok defence result ≡ layout_at hand0 hand2 first (here fields.old) }
+    ensures value { on_ok defence result ≡ layout_at (bits_of hand0) (bits_of hand2) (option_map bits_of first) (here fields.old) }
     ensures goes { is_ok result ≡ true → here fields.new ≡ next_spot (next_spot (here fields.old)) }
 {
     let ours = hand0.union(hand2);
@@ -116,14 +119,12 @@ fn layouts(
     hand2: CardSet,
     count: LayoutCount,
 ) -> Result<[Layout; 6], Fault>
-    ensures { on_ok (λ a. map defence (take count a)) result ≡ layouts_at count hand0 hand2 [] (here fields.old) }
+    ensures { on_ok (λ a. map defence (take (listed count) a)) result ≡ layouts_at (listed count) (bits_of hand0) (bits_of hand2) [] (here fields.old) }
 {
     let mut layouts = [Layout::NONE; 6];
     let mut first = None;
     for place in &mut layouts[..count.get()] {
-        // `first` is used again below, and a call would take it whole.
-        let known = first;
-        let Layout { hand1, hand3 } = layout(fields, hand0, hand2, known)?;
+        let Layout { hand1, hand3 } = layout(fields, hand0, hand2, first)?;
         *place = Layout { hand1, hand3 };
         first = first.or(Some(hand1.union(hand3)));
     }

@@ -2,13 +2,13 @@
 
 ghost use Rattle.std.specs.Prelude.{◌≡◌, ℕ, ◌<◌, ◌≤◌, List, IfSome, Option};
 ghost use Rattle.cards.specs.Codes.{suit_code, rank_code, card_code};
+ghost use Rattle.cards.specs.Numbers.{bits_of};
 ghost use Rattle.lines.specs.Seats.{seat_number};
 ghost use Rattle.lines.specs.Spelling.{suit_letters, rank_letters, place_of, leader_of, trump_of, digit_of, number_of, target_of, count_of, card_of, cards_of, hand_of};
 ghost use Rattle.std.specs.Option.{option_map};
 
 use crate::deal::{Seat, Target};
 use cards::{Card, CardSet, Rank, Suit};
-use std::marker::Model;
 
 /// A value that a field can spell.
 // Stays a trait of its own: Option<Suit> and CardSet are other crates' types, and get no further TryFrom here.
@@ -28,23 +28,17 @@ pub trait Spelled: Sized {
 #[derive(Clone, Copy, PartialEq, Eq, Debug)]
 pub struct LayoutCount {
     count: usize,
-}
-
-impl Model for LayoutCount {
-    ghost Value = { ℕ };
-
-    ghost view = { λ c. c.count };
-
-    ghost invariant = { λ c. (1 ≤ c.count) × (c.count ≤ 6) };
-
-    ghost inverse = { λ n. record { count = n } };
+    ghost some: { 1 ≤ count },
+    ghost few: { count ≤ 6 },
 }
 
 impl LayoutCount {
+    ghost use Rattle.lines.specs.Counts.{listed};
+
     /// The number.
     // Stays a method, as std's numbers that are not 0 have it.
     pub fn get(self) -> usize
-        ensures value { result ≡ self }
+        ensures value { result ≡ listed self }
         ensures some { 1 ≤ result }
         ensures few { result ≤ 6 }
     {
@@ -117,17 +111,19 @@ fn number(text: &[u8]) -> Option<u8>
 
 /// The cards that a text spells in strictly rising code, suit and rank letters in turn.
 fn cards(text: &[u8]) -> Option<CardSet>
-    ensures { result ≡ cards_of text.now }
+    ensures { option_map bits_of result ≡ cards_of text.now }
 {
     let mut rest = text;
     let mut last = None;
     let mut cards = CardSet::EMPTY;
     while let [first, second, more @ ..] = rest {
         let card = card(*first, *second)?;
-        if Some(card) <= last {
+        // Codes are compared, as two cards take longer to compare.
+        let code = u8::from(card);
+        if last.is_some_and(|last| code <= last) {
             return None;
         }
-        last = Some(card);
+        last = Some(code);
         cards = cards.with(card);
         rest = more;
     }
@@ -184,9 +180,11 @@ impl Spelled for Target {
 }
 
 impl Spelled for LayoutCount {
+    ghost use Rattle.lines.specs.Counts.{listed};
+
     ghost Told = { ℕ };
 
-    ghost told = { λ c. c };
+    ghost told = { listed };
 
     ghost spells = { count_of };
 
@@ -204,7 +202,7 @@ impl Spelled for LayoutCount {
 impl Spelled for CardSet {
     ghost Told = { ℕ };
 
-    ghost told = { λ h. h };
+    ghost told = { bits_of };
 
     ghost spells = { hand_of };
 

@@ -1,16 +1,13 @@
 -- Each way through a step, from what the program found on it.
 use Rattle.std.proofs.Common.{◌≡◌, ℕ, suc, Bool, true, false, cond, ltb, List, [], ◌∷◌, length, Some, None, Option, sym, refl, ap, ◌∙◌, subst}
 use Rattle.std.proofs.lemmas.Option.{none-some}
-use Rattle.lattice.specs.declared.Lattice.{Ghosts as Scores}
+use Rattle.lattice.specs.declared.Lattice.{Ghosts}
 use Rattle.lattice.specs.declared.bracket.Bracket.{Bracket}
 use Rattle.lattice.specs.Scores.{Scoring, standing}
 use Rattle.lattice.specs.Windows.{scored}
 use Rattle.games.specs.declared.side.Side.{Side}
-use Rattle.games.specs.declared.Game.{Ghosts as Games}
-use Rattle.games.specs.Trees.{key_of, score_of, side_of, children_of, count, can_play, after_play}
-use Rattle.tables.specs.declared.Table.{Ghosts as Tables}
+use Rattle.games.specs.Trees.{Line, key_of, score_of, side_of, children_of, count, can_play, after_play}
 use Rattle.tables.specs.Tables.{TableOps}
-use Rattle.policies.specs.declared.Policy.{Ghosts as Policies}
 use Rattle.policies.specs.Policies.{PolicyOps}
 use Rattle.search.specs.declared.engine.Engine.{Engine}
 use Rattle.search.specs.declared.frame.Frame.{Frame}
@@ -18,8 +15,7 @@ use Rattle.search.specs.declared.frame.Hand.TheVariants.{Enter, Holding, Nothing
 use Rattle.search.specs.declared.frame.Progress.{Progress}
 use Rattle.search.specs.declared.stack.SearchStack.{SearchStack}
 use Rattle.search.specs.Steps.{Search, more, claim, claimed, opened, narrowed, shut, cut, marked, noticed, moved, counted, entering, closed, resuming}
-use Rattle.search.specs.Stacks.{head, tail, with_head, frames, room, framed, all_framed, handed}
-use Rattle.search.specs.Bounds.{search_of}
+use Rattle.search.specs.Stacks.{head, tail, with_head, frames, room, framed, all_framed, handed, searching}
 
 -- frames with a newest one
 head_tail : {X : Type 0} (xs : List X) (x : X) → Some x ≡ head xs → xs ≡ x ∷ tail xs
@@ -78,129 +74,129 @@ module _ {S C M P : Type 0} where
   same_parts s z l m p f r h e u = λ i.
       record { line = l i; table = m i; policy = p i; frames = f i; places = r i; hand = h i; entered = e i; used = u i }
 
-module _ {G T Q S : Type 0} {score : Scores S} (game : Games G S) (table : Tables T) (policy : Policies Q)
-    (e : Engine G T Q S) (k : SearchStack S score) (g : Progress S) where
-  abbrev before : Search S score.Score table.Model policy.Model
-  before = search_of game table policy e k g
+module _ {G T Q S C M P : Type 0} {meaning : Ghosts S} (o : Scoring C) (st : S → C) (tb : TableOps M) (ch : PolicyOps P)
+    (line : G → Line S) (table : T → M) (policy : Q → P) (e : Engine G T Q S) (k : SearchStack S meaning) (g : Progress S) where
+  abbrev before : Search S C M P
+  before = searching st line table policy e k g
 
   -- a turn that the table does not know, and there is room for its frame
-  pub way_pushed : (k' : SearchStack S score) (g' : Progress S) (w : Bracket S) (v : Option S) (t : Option Side) (d : Side) (b : Option (Bracket S)) (f : Frame S) (r : Bool)
-      → v ≡ score_of (game.line e.game).present → v ≡ None → t ≡ side_of (game.line e.game).present → t ≡ Some d
-      → standing (scored score.stands) b ≡ claimed score.scoring (scored score.stands w) (table.ops.answer (table.model e.table) (key_of (game.line e.game).present)) → b ≡ None
-      → framed score.stands f ≡ opened score.scoring (scored score.stands w) d
+  pub way_pushed : (k' : SearchStack S meaning) (g' : Progress S) (w : Bracket S) (v : Option S) (t : Option Side) (d : Side) (b : Option (Bracket S)) (f : Frame S) (r : Bool)
+      → v ≡ score_of (line e.game).present → v ≡ None → t ≡ side_of (line e.game).present → t ≡ Some d
+      → standing (scored st) b ≡ claimed o (scored st w) (tb.answer (table e.table) (key_of (line e.game).present)) → b ≡ None
+      → framed st f ≡ opened o (scored st w) d
       → r ≡ ltb (length (frames k)) (room k) → r ≡ true → frames k' ≡ cond r (f ∷ frames k) (frames k) → room k' ≡ room k
       → g'.hand ≡ Nothing → g'.entered ≡ more g.entered → g'.used ≡ g.used
-      → search_of game table policy e k' g'
-      ≡ entering score.scoring score.stands table.ops before (scored score.stands w) (score_of (game.line e.game).present) (side_of (game.line e.game).present)
+      → searching st line table policy e k' g'
+      ≡ entering o st tb before (scored st w) (score_of (line e.game).present) (side_of (line e.game).present)
   way_pushed k' g' w v t d b f r ev miss et turn eb none opens told hit fs rm h n u =
-      let can : ltb (length (all_framed score.stands (frames k))) (room k) ≡ true =
-      ap (λ x. ltb x (room k)) (length_framed score.stands (frames k)) ∙ sym told ∙ hit in
-      let way = enters_pushed score.scoring score.stands table.ops before (scored score.stands w) d (score_of (game.line e.game).present) (side_of (game.line e.game).present)
-      (sym ev ∙ miss) (sym et ∙ turn) (sym eb ∙ ap (standing (scored score.stands)) none) can in
+      let can : ltb (length (all_framed st (frames k))) (room k) ≡ true =
+      ap (λ x. ltb x (room k)) (length_framed st (frames k)) ∙ sym told ∙ hit in
+      let way = enters_pushed o st tb before (scored st w) d (score_of (line e.game).present) (side_of (line e.game).present)
+      (sym ev ∙ miss) (sym et ∙ turn) (sym eb ∙ ap (standing (scored st)) none) can in
       let pushed : frames k' ≡ f ∷ frames k = fs ∙ ap (λ x. cond x (f ∷ frames k) (frames k)) hit in
-      same_parts _ _ refl refl refl (ap (all_framed score.stands) pushed ∙ ap (λ x. x ∷ all_framed score.stands (frames k)) opens) rm (ap (handed score.stands) h) n u ∙ sym way
+      same_parts _ _ refl refl refl (ap (all_framed st) pushed ∙ ap (λ x. x ∷ all_framed st (frames k)) opens) rm (ap (handed st) h) n u ∙ sym way
 
   -- and there is none
-  pub way_full : (k' : SearchStack S score) (w : Bracket S) (v : Option S) (t : Option Side) (d : Side) (b : Option (Bracket S)) (f : Frame S) (r : Bool)
-      → v ≡ score_of (game.line e.game).present → v ≡ None → t ≡ side_of (game.line e.game).present → t ≡ Some d
-      → standing (scored score.stands) b ≡ claimed score.scoring (scored score.stands w) (table.ops.answer (table.model e.table) (key_of (game.line e.game).present)) → b ≡ None
+  pub way_full : (k' : SearchStack S meaning) (w : Bracket S) (v : Option S) (t : Option Side) (d : Side) (b : Option (Bracket S)) (f : Frame S) (r : Bool)
+      → v ≡ score_of (line e.game).present → v ≡ None → t ≡ side_of (line e.game).present → t ≡ Some d
+      → standing (scored st) b ≡ claimed o (scored st w) (tb.answer (table e.table) (key_of (line e.game).present)) → b ≡ None
       → r ≡ ltb (length (frames k)) (room k) → r ≡ false → frames k' ≡ cond r (f ∷ frames k) (frames k) → room k' ≡ room k
-      → search_of game table policy e k' g
-      ≡ entering score.scoring score.stands table.ops before (scored score.stands w) (score_of (game.line e.game).present) (side_of (game.line e.game).present)
+      → searching st line table policy e k' g
+      ≡ entering o st tb before (scored st w) (score_of (line e.game).present) (side_of (line e.game).present)
   way_full k' w v t d b f r ev miss et turn eb none told hit fs rm =
-      let can : ltb (length (all_framed score.stands (frames k))) (room k) ≡ false =
-      ap (λ x. ltb x (room k)) (length_framed score.stands (frames k)) ∙ sym told ∙ hit in
-      let way = enters_full score.scoring score.stands table.ops before (scored score.stands w) d (score_of (game.line e.game).present) (side_of (game.line e.game).present)
-      (sym ev ∙ miss) (sym et ∙ turn) (sym eb ∙ ap (standing (scored score.stands)) none) can in
+      let can : ltb (length (all_framed st (frames k))) (room k) ≡ false =
+      ap (λ x. ltb x (room k)) (length_framed st (frames k)) ∙ sym told ∙ hit in
+      let way = enters_full o st tb before (scored st w) d (score_of (line e.game).present) (side_of (line e.game).present)
+      (sym ev ∙ miss) (sym et ∙ turn) (sym eb ∙ ap (standing (scored st)) none) can in
       let stays : frames k' ≡ frames k = fs ∙ ap (λ x. cond x (f ∷ frames k) (frames k)) hit in
-      same_parts _ _ refl refl refl (ap (all_framed score.stands) stays) rm refl refl refl ∙ sym way
+      same_parts _ _ refl refl refl (ap (all_framed st) stays) rm refl refl refl ∙ sym way
 
   -- what is read of the newest frame before a child is chosen: the frame, the side to move, and the window for the next child
   pub record Reads (n : Option (Frame S)) (f : Frame S) (t : Option Side) (d : Side) (w : Bracket S) (b : Bool) : Type 0 where
     pub top : n ≡ head (frames k)
     pub newest : n ≡ Some f
-    pub side : t ≡ side_of (game.line e.game).present
+    pub side : t ≡ side_of (line e.game).present
     pub turn : t ≡ Some d
-    pub window : scored score.stands w ≡ narrowed score.scoring d (framed score.stands f)
-    pub shuts : b ≡ shut score.scoring (scored score.stands w)
+    pub window : scored st w ≡ narrowed o d (framed st f)
+    pub shuts : b ≡ shut o (scored st w)
 
   module _ (n : Option (Frame S)) (f : Frame S) (t : Option Side) (d : Side) (w : Bracket S) (b : Bool) (read : Reads n f t d w b) where
-    splits : all_framed score.stands (frames k) ≡ framed score.stands f ∷ all_framed score.stands (tail (frames k))
-    splits = newest_framed score.stands (frames k) f (sym read.newest ∙ read.top)
+    splits : all_framed st (frames k) ≡ framed st f ∷ all_framed st (tail (frames k))
+    splits = newest_framed st (frames k) f (sym read.newest ∙ read.top)
 
-    turns : side_of (game.line e.game).present ≡ Some d
+    turns : side_of (line e.game).present ≡ Some d
     turns = sym read.side ∙ read.turn
 
-    shut_is : (x : Bool) → b ≡ x → shut score.scoring (narrowed score.scoring d (framed score.stands f)) ≡ x
-    shut_is x q = subst (λ y. shut score.scoring y ≡ x) read.window (sym read.shuts ∙ q)
+    shut_is : (x : Bool) → b ≡ x → shut o (narrowed o d (framed st f)) ≡ x
+    shut_is x q = subst (λ y. shut o y ≡ x) read.window (sym read.shuts ∙ q)
 
     -- a cut
-    pub way_cut : (e' e'' : Engine G T Q S) (k'' : SearchStack S score) (g'' : Progress S) (a : Bracket S) (deep : ℕ) → b ≡ true
+    pub way_cut : (e' e'' : Engine G T Q S) (k'' : SearchStack S meaning) (g'' : Progress S) (a : Bracket S) (deep : ℕ) → b ≡ true
         → deep ≡ length (tail (frames k)) → e'.game ≡ e.game → e'.table ≡ e.table
-        → policy.model e'.policy ≡ noticed policy.ops (policy.model e.policy) deep f.last
-        → scored score.stands a ≡ cut score.scoring d (framed score.stands f)
-        → search_of game table policy e'' k'' g''
-        ≡ closed score.scoring table.ops (search_of game table policy e' k g) (policy.model e'.policy) (all_framed score.stands (tail (frames k))) (scored score.stands a)
-        → search_of game table policy e'' k'' g'' ≡ resuming score.scoring table.ops policy.ops before (all_framed score.stands (frames k)) (side_of (game.line e.game).present)
-    way_cut e' e'' k'' g'' a deep hit depth same_game tab pol cuts closes =
-        let gs = all_framed score.stands (tail (frames k)) in
-        let way = resumes_cut score.scoring table.ops policy.ops before (all_framed score.stands (frames k)) gs (framed score.stands f) d (side_of (game.line e.game).present) splits turns (shut_is true hit) in
-        let told : policy.model e'.policy ≡ noticed policy.ops (policy.model e.policy) (length gs) f.last =
-        pol ∙ ap (λ x. noticed policy.ops (policy.model e.policy) x f.last) (depth ∙ sym (length_framed score.stands (tail (frames k)))) in
+        → policy e'.policy ≡ noticed ch (policy e.policy) deep f.last
+        → scored st a ≡ cut o d (framed st f)
+        → searching st line table policy e'' k'' g''
+        ≡ closed o tb (searching st line table policy e' k g) (policy e'.policy) (all_framed st (tail (frames k))) (scored st a)
+        → searching st line table policy e'' k'' g'' ≡ resuming o tb ch before (all_framed st (frames k)) (side_of (line e.game).present)
+    way_cut e' e'' k'' g'' a deep hit depth game tab pol cuts closes =
+        let gs = all_framed st (tail (frames k)) in
+        let way = resumes_cut o tb ch before (all_framed st (frames k)) gs (framed st f) d (side_of (line e.game).present) splits turns (shut_is true hit) in
+        let told : policy e'.policy ≡ noticed ch (policy e.policy) (length gs) f.last =
+        pol ∙ ap (λ x. noticed ch (policy e.policy) x f.last) (depth ∙ sym (length_framed st (tail (frames k)))) in
         closes
-        ∙ same_parts _ _ (ap game.line same_game)
-        (λ i. table.ops.put (table.model (tab i)) (claim score.scoring (key_of (game.line (same_game i)).present) (cuts i)))
+        ∙ same_parts _ _ (ap line game)
+        (λ i. tb.put (table (tab i)) (claim o (key_of (line (game i)).present) (cuts i)))
         told refl refl (ap Holding cuts) refl refl
         ∙ sym way
 
     -- what the policy chose
-    chosen : (x : Option ℕ) (deep m : ℕ) → deep ≡ length (tail (frames k)) → m ≡ count (children_of (game.line e.game).present)
-        → x ≡ policy.ops.choose (policy.model e.policy) deep f.taken.0 m
+    chosen : (x : Option ℕ) (deep m : ℕ) → deep ≡ length (tail (frames k)) → m ≡ count (children_of (line e.game).present)
+        → x ≡ ch.choose (policy e.policy) deep f.taken.0 m
         → (y : Option ℕ) → x ≡ y
-        → policy.ops.choose (policy.model e.policy) (length (all_framed score.stands (tail (frames k)))) f.taken.0 (count (children_of (game.line e.game).present)) ≡ y
+        → ch.choose (policy e.policy) (length (all_framed st (tail (frames k)))) f.taken.0 (count (children_of (line e.game).present)) ≡ y
     chosen x deep m depth many is y q =
-        let same : deep ≡ length (all_framed score.stands (tail (frames k))) = depth ∙ sym (length_framed score.stands (tail (frames k))) in
-        sym (λ i. policy.ops.choose (policy.model e.policy) (same i) f.taken.0 (many i)) ∙ sym is ∙ q
+        let same : deep ≡ length (all_framed st (tail (frames k))) = depth ∙ sym (length_framed st (tail (frames k))) in
+        sym (λ i. ch.choose (policy e.policy) (same i) f.taken.0 (many i)) ∙ sym is ∙ q
 
     -- all children are taken
-    pub way_taken : (e'' : Engine G T Q S) (k'' : SearchStack S score) (g'' : Progress S) (x : Option ℕ) (deep m : ℕ) → b ≡ false
-        → deep ≡ length (tail (frames k)) → m ≡ count (children_of (game.line e.game).present)
-        → x ≡ policy.ops.choose (policy.model e.policy) deep f.taken.0 m → x ≡ None
-        → search_of game table policy e'' k'' g''
-        ≡ closed score.scoring table.ops before (policy.model e.policy) (all_framed score.stands (tail (frames k))) (scored score.stands f.found)
-        → search_of game table policy e'' k'' g'' ≡ resuming score.scoring table.ops policy.ops before (all_framed score.stands (frames k)) (side_of (game.line e.game).present)
+    pub way_taken : (e'' : Engine G T Q S) (k'' : SearchStack S meaning) (g'' : Progress S) (x : Option ℕ) (deep m : ℕ) → b ≡ false
+        → deep ≡ length (tail (frames k)) → m ≡ count (children_of (line e.game).present)
+        → x ≡ ch.choose (policy e.policy) deep f.taken.0 m → x ≡ None
+        → searching st line table policy e'' k'' g''
+        ≡ closed o tb before (policy e.policy) (all_framed st (tail (frames k))) (scored st f.found)
+        → searching st line table policy e'' k'' g'' ≡ resuming o tb ch before (all_framed st (frames k)) (side_of (line e.game).present)
     way_taken e'' k'' g'' x deep m miss depth many is none closes =
         closes
-        ∙ sym (resumes_full score.scoring table.ops policy.ops before (all_framed score.stands (frames k)) (all_framed score.stands (tail (frames k))) (framed score.stands f) d (side_of (game.line e.game).present) splits turns
+        ∙ sym (resumes_full o tb ch before (all_framed st (frames k)) (all_framed st (tail (frames k))) (framed st f) d (side_of (line e.game).present) splits turns
         (shut_is false miss) (chosen x deep m depth many is None none))
 
     -- a child is played
-    pub way_played : (e'' : Engine G T Q S) (k'' : SearchStack S score) (x : Option ℕ) (deep m i : ℕ) (y : Bool) (f' : Frame S) → b ≡ false
-        → deep ≡ length (tail (frames k)) → m ≡ count (children_of (game.line e.game).present)
-        → x ≡ policy.ops.choose (policy.model e.policy) deep f.taken.0 m → x ≡ Some i
-        → y ≡ can_play (game.line e.game) i → y ≡ true → game.line e''.game ≡ after_play (game.line e.game) i
-        → table.model e''.table ≡ table.model e.table → policy.model e''.policy ≡ policy.model e.policy
+    pub way_played : (e'' : Engine G T Q S) (k'' : SearchStack S meaning) (x : Option ℕ) (deep m i : ℕ) (y : Bool) (f' : Frame S) → b ≡ false
+        → deep ≡ length (tail (frames k)) → m ≡ count (children_of (line e.game).present)
+        → x ≡ ch.choose (policy e.policy) deep f.taken.0 m → x ≡ Some i
+        → y ≡ can_play (line e.game) i → y ≡ true → line e''.game ≡ after_play (line e.game) i
+        → table e''.table ≡ table e.table → policy e''.policy ≡ policy e.policy
         → f' ≡ marked f i → frames k'' ≡ with_head (frames k) f' → room k'' ≡ room k
-        → search_of game table policy e'' k'' (record { hand = Enter w; entered = g.entered; used = g.used })
-        ≡ resuming score.scoring table.ops policy.ops before (all_framed score.stands (frames k)) (side_of (game.line e.game).present)
+        → searching st line table policy e'' k'' (record { hand = Enter w; entered = g.entered; used = g.used })
+        ≡ resuming o tb ch before (all_framed st (frames k)) (side_of (line e.game).present)
     way_played e'' k'' x deep m i y f' miss depth many is some told hit goes tab pol mark fs rm =
         let whole : frames k ≡ f ∷ tail (frames k) = head_tail (frames k) f (sym read.newest ∙ read.top) in
         let marks : frames k'' ≡ marked f i ∷ tail (frames k) =
         fs ∙ ap (λ z. with_head z f') whole ∙ ap (λ z. z ∷ tail (frames k)) mark in
-        same_parts _ _ goes tab pol (ap (all_framed score.stands) marks) rm (ap Enter read.window) refl refl
-        ∙ sym (resumes_played score.scoring table.ops policy.ops before (all_framed score.stands (frames k)) (all_framed score.stands (tail (frames k))) (framed score.stands f) d (side_of (game.line e.game).present) i splits turns
+        same_parts _ _ goes tab pol (ap (all_framed st) marks) rm (ap Enter read.window) refl refl
+        ∙ sym (resumes_played o tb ch before (all_framed st (frames k)) (all_framed st (tail (frames k))) (framed st f) d (side_of (line e.game).present) i splits turns
         (shut_is false miss) (chosen x deep m depth many is (Some i) some) (sym told ∙ hit))
 
     -- there is no such child
     pub way_stuck : (e'' : Engine G T Q S) (x : Option ℕ) (deep m i : ℕ) (y : Bool) → b ≡ false
-        → deep ≡ length (tail (frames k)) → m ≡ count (children_of (game.line e.game).present)
-        → x ≡ policy.ops.choose (policy.model e.policy) deep f.taken.0 m → x ≡ Some i
-        → y ≡ can_play (game.line e.game) i → y ≡ false → game.line e''.game ≡ after_play (game.line e.game) i
-        → table.model e''.table ≡ table.model e.table → policy.model e''.policy ≡ policy.model e.policy
-        → search_of game table policy e'' k g ≡ resuming score.scoring table.ops policy.ops before (all_framed score.stands (frames k)) (side_of (game.line e.game).present)
+        → deep ≡ length (tail (frames k)) → m ≡ count (children_of (line e.game).present)
+        → x ≡ ch.choose (policy e.policy) deep f.taken.0 m → x ≡ Some i
+        → y ≡ can_play (line e.game) i → y ≡ false → line e''.game ≡ after_play (line e.game) i
+        → table e''.table ≡ table e.table → policy e''.policy ≡ policy e.policy
+        → searching st line table policy e'' k g ≡ resuming o tb ch before (all_framed st (frames k)) (side_of (line e.game).present)
     way_stuck e'' x deep m i y miss depth many is some told never goes tab pol =
-        let can : can_play (game.line e.game) i ≡ false = sym told ∙ never in
-        let stays : game.line e''.game ≡ game.line e.game = rw can at goes in
+        let can : can_play (line e.game) i ≡ false = sym told ∙ never in
+        let stays : line e''.game ≡ line e.game = rw can at goes in
         same_parts _ _ stays tab pol refl refl refl refl refl
-        ∙ sym (resumes_stuck score.scoring table.ops policy.ops before (all_framed score.stands (frames k)) (all_framed score.stands (tail (frames k))) (framed score.stands f) d (side_of (game.line e.game).present) i splits turns
+        ∙ sym (resumes_stuck o tb ch before (all_framed st (frames k)) (all_framed st (tail (frames k))) (framed st f) d (side_of (line e.game).present) i splits turns
         (shut_is false miss) (chosen x deep m depth many is (Some i) some) can)

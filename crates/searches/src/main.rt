@@ -3,19 +3,23 @@
 
 #![tactic(auto)]
 
+ghost use Rattle.std.specs.Prelude.{◌≡◌};
+ghost use Rattle.lines.specs.Deals.{tricks, plan};
+ghost use Rattle.lines.specs.Told.{deal_of};
+
 use answers::fault_line;
 use answers::input::answer_lines;
 use answers::shown::Shown;
 use deals::{Aim, CardGame, PlanGame, TrickGame};
 use lattice::Lattice;
 use lattice::bracket::Bracket;
-use lines::Goal;
+use lines::{Goal, Problem};
 use policies::{Highest, Recent};
 use search::engine::run::is_finished;
 use search::{Engine, Frame, Hand, Progress, SearchStack};
 use std::alloc::{AllocError, Global};
 use std::io;
-use std::io::BufReader;
+use std::io::{BufReader, BufWriter};
 use tables::{Direct, Front};
 
 /// The steps that a search is granted.
@@ -62,6 +66,22 @@ where
     format!(in heap; "{number},{kind},{value},{entered},{used},{steps},{finished}")
 }
 
+/// The line for the search of a problem that asks for tricks.
+fn by_tricks(heap: Global, number: u64, problem: Problem) -> Result<String, AllocError>
+    requires { (deal_of problem).asked ≡ tricks }
+{
+    let game = TrickGame::new(problem).unwrap();
+    searched(heap, number, game, &mut [Frame::blank(); 65])
+}
+
+/// The line for the search of a problem that asks for a plan.
+fn by_plan(heap: Global, number: u64, problem: Problem, target: u8) -> Result<String, AllocError>
+    requires { (deal_of problem).asked ≡ plan target }
+{
+    let game = PlanGame::new(problem).unwrap();
+    searched(heap, number, game, &mut [Frame::blank(); 65])
+}
+
 /// The line for a line of the input.
 fn line(heap: Global, number: u64, text: &[u8]) -> Result<String, AllocError> {
     let problem = match lines::read(text) {
@@ -69,22 +89,18 @@ fn line(heap: Global, number: u64, text: &[u8]) -> Result<String, AllocError> {
         Err(fault) => return fault_line(heap, number, fault),
     };
     // Stays a match in each crate that takes problems: the two games are two types, and no closure takes both.
+    // Each has a function of its own, since a function clears all its memory at its beginning, faulty line or not.
     match problem.goal() {
-        Goal::Tricks => {
-            let game = TrickGame::new(problem).unwrap();
-            searched(heap, number, game, &mut [Frame::blank(); 65])
-        }
-        Goal::Plan(_) => {
-            let game = PlanGame::new(problem).unwrap();
-            searched(heap, number, game, &mut [Frame::blank(); 65])
-        }
+        Goal::Tricks => by_tricks(heap, number, problem),
+        Goal::Plan(target) => by_plan(heap, number, problem, target.0),
     }
 }
 
 fn main(rt: HostRuntime) -> io::Result<()> {
     let heap = rt.alloc();
     let mut input = BufReader::new(heap, rt.stdin())?;
-    answer_lines(heap, &mut input, &mut rt.stdout(), |number, text| {
+    let mut output = BufWriter::new(heap, rt.stdout())?;
+    answer_lines(heap, &mut input, &mut output, |number, text| {
         Ok(Some(line(heap, number, text)?))
     })
 }

@@ -15,7 +15,7 @@ use session::{Answer, Stops, code, refusals, stop_everywhere};
 use solver::solve;
 use std::alloc::{AllocError, Global};
 use std::io;
-use std::io::BufReader;
+use std::io::{BufReader, BufWriter};
 use tables::{Claim, Direct, Empty, Front};
 
 mod own;
@@ -40,19 +40,10 @@ fn session_of<A: Aim, P: Policy + Copy + Drop>(
     others: &mut [Frame<A::Score>],
     few: &mut [Frame<A::Score>],
 ) -> Option<Report> {
-    // Stays `let .. else`, here and below: by `ok()` and `?` the checker made no proof of a value that holds layouts.
-    let Ok(plain) = CardGame::<A>::new(*problem) else {
-        return None;
-    };
-    let Ok(offered) = CardGame::<A>::new(*problem) else {
-        return None;
-    };
-    let Ok(analysed) = CardGame::<A>::new(*problem) else {
-        return None;
-    };
-    let Ok(second) = CardGame::<A>::new(*problem) else {
-        return None;
-    };
+    let plain = CardGame::<A>::new(*problem).ok()?;
+    let offered = CardGame::<A>::new(*problem).ok()?;
+    let analysed = CardGame::<A>::new(*problem).ok()?;
+    let second = CardGame::<A>::new(*problem).ok()?;
     let table = Front::new(Direct::new(places));
     let mut analyst = Analyst::new(analysed, table, Recent::new(policy));
     let below = Front::new(Direct::new(more));
@@ -139,7 +130,8 @@ fn told(heap: Global, number: u64, report: &Report) -> Result<String, AllocError
 fn main(rt: HostRuntime) -> io::Result<()> {
     let heap = rt.alloc();
     let mut input = BufReader::new(heap, rt.stdin())?;
-    answer_lines(heap, &mut input, &mut rt.stdout(), |number, line| {
+    let mut output = BufWriter::new(heap, rt.stdout())?;
+    answer_lines(heap, &mut input, &mut output, |number, line| {
         Ok(match of_line(line) {
             Some(report) => Some(told(heap, number, &report)?),
             None => None,

@@ -7,7 +7,7 @@ use Rattle.games.specs.Trees.{Tree, Line, height_of, size, plain}
 use Rattle.tables.specs.Tables.{TableOps}
 use Rattle.policies.specs.Policies.{PolicyOps}
 use Rattle.search.specs.Promises.{began, Tells}
-use Rattle.search.specs.Steps.{Search, ran, done}
+use Rattle.search.specs.Steps.{Search, finished, ran, done}
 use Rattle.analyst.specs.declared.refusal.Refusal.{Refusal}
 use Rattle.analyst.specs.declared.refusal.Refusal.TheVariants.{JobNotNew, StackNotFree, StackTooSmall}
 use Rattle.analyst.specs.Calls.{Stack, is_free, value_of}
@@ -50,6 +50,12 @@ module _ {S C M P : Type 0} (o : Scoring C) (st : S → C) (tb : TableOps M) (ch
       ∷ [])
       (finds l m p k.places n)
 
+  -- whether the search of finds is itself at its end, once n steps are granted: its stack is empty, and it holds a bracket
+  abbrev pub ends_at : Line S → M → P → ℕ → ℕ → Bool
+  ends_at l m p places n =
+      let x : Search S C M P = began l (whole o) (tb.clear m) p places in
+      finished (ran o st tb ch n x)
+
 -- what was found is right for the position t, with n steps granted
 pub record SolvedRight {S C : Type 0} (o : Scoring C) (st : S → C) (t : Tree S) (n : ℕ) (f : Solved C) : Type 0 where
   -- a value exactly if the search is finished, and it is the plain value
@@ -68,3 +74,8 @@ pub record SolvedRight {S C : Type 0} (o : Scoring C) (st : S → C) (t : Tree S
 abbrev pub SolvesRight : {S C E : Type 0} → Scoring C → (S → C) → Tree S → ℕ → Result (Solved C) E → Type 0
 SolvesRight o st t n (Ok f) = SolvedRight o st t n f
 SolvesRight o st t n (Err e) = Unit {0}
+
+-- what a search that is accepted found has a value exactly where the search itself is at its end, which b tells
+abbrev pub SolvesToEnd : {C E : Type 0} → Bool → Result (Solved C) E → Type 0
+SolvesToEnd b (Ok f) = is_finished f ≡ b
+SolvesToEnd b (Err e) = Unit {0}

@@ -2,7 +2,7 @@
 
 ghost use Rattle.std.specs.Prelude.{◌≡◌};
 ghost use Rattle.solver.specs.Solving.{is_finished, solved_of};
-ghost use Rattle.solver.specs.Bounds.{solves_of, SolvesRightOf};
+ghost use Rattle.solver.specs.Bounds.{solves_of, SolvesRightOf, SolvesToEndOf};
 
 use analyst::{Analyst, Ended, Ran, Refusal};
 use games::Game;
@@ -42,7 +42,8 @@ fn told<S: Lattice>(ran: Ran, ended: Ended<S>) -> Solved<S>
 /// and end. Refused (4) with job 0, (6) where the stack is not free, (7) where it has fewer places than the height of
 /// the position and one more.
 ///
-/// The value is there exactly if the search is finished, and it is the plain value of the position.
+/// The value is there exactly if the search is finished, itself at its end: its stack is empty, and it holds a bracket.
+/// It is then the plain value of the position.
 pub fn solve<G: Game + Drop, T: Table + Drop, P: Policy + Drop>(
     game: G,
     table: T,
@@ -53,6 +54,7 @@ pub fn solve<G: Game + Drop, T: Table + Drop, P: Policy + Drop>(
 ) -> Result<Solved<G::Score>, Refusal>
     ensures answer { solved_of G.Score.Lattice.stands result ≡ solves_of G.Game T.Table P.Policy game table policy job stack.old steps }
     ensures right { SolvesRightOf G.Score.Lattice G.Game game steps result }
+    ensures ends { SolvesToEndOf G.Game T.Table P.Policy game table policy stack.old steps result }
 {
     let mut analyst = Analyst::new(game, table, policy);
     let ticket = analyst.begin(job, Bracket::whole(), stack)?;

@@ -2,6 +2,7 @@
 
 ghost use Rattle.std.specs.Prelude.{◌≡◌, ◌<◌, ◌≤◌, true, length, ◌==◌, count_ones};
 ghost use Rattle.cards.specs.Codes.{card_code};
+ghost use Rattle.cards.specs.Numbers.{bits_of};
 ghost use Rattle.cardplay.specs.Cards.{legal_set, card_key};
 ghost use Rattle.deals.specs.Dealing.{dealt_of};
 ghost use Rattle.deals.specs.Courses.{After};
@@ -21,7 +22,7 @@ impl Course {
         ensures { stand_of result ≡ first_stand (dealt_of problem) }
     {
         let present = State::first(&problem);
-        let past = Past::new(&present);
+        let past = Past::new(present);
         Course {
             problem,
             present,
@@ -68,7 +69,7 @@ impl Course {
 
     /// The legal cards.
     pub fn legal(&self) -> CardSet
-        ensures { result ≡ legal_set (stand_of self.now).deal (stand_of self.now).present }
+        ensures { bits_of result ≡ legal_set (stand_of self.now).deal (stand_of self.now).present }
     {
         self.present.legal(&self.problem)
     }

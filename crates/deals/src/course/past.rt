@@ -29,11 +29,11 @@ impl Model for Past {
 
 impl Past {
     /// No states; the places are filled with one that does not count.
-    pub(crate) fn new(filler: &State) -> Past
+    pub(crate) fn new(filler: State) -> Past
         ensures { result ≡ [] }
     {
         Past {
-            states: [*filler; 52],
+            states: [filler; 52],
             count: 0,
         }
     }

@@ -4,6 +4,7 @@ ghost use Rattle.std.specs.Prelude.{◌≡◌, ℕ, ◌+◌, ◌-◌, ◌%◌, �
 ghost use Rattle.bitsets.specs.Sets.{has};
 ghost use Rattle.games.specs.declared.side.Side.TheVariants.{Max, Min};
 ghost use Rattle.cards.specs.Codes.{card_code};
+ghost use Rattle.cards.specs.Numbers.{bits_of};
 ghost use Rattle.lines.specs.Seats.{seat_number};
 ghost use Rattle.cardplay.specs.Cards.{Dealt, hand as hand_of, may_play, to_play, legal_set, live_after, after_card, card_key, side as side_to_play};
 ghost use Rattle.cardplay.specs.Deals.{layout, first_play};
@@ -25,14 +26,14 @@ const LAYOUTS: u32 = 6;
 /// The hand that a seat was dealt in a layout, from 0; no cards past the last layout.
 #[tactic(auto, using(crate::proofs::Layouts::dealt_hand))]
 fn dealt(problem: &Problem, place: u32, seat: Seat) -> CardSet
-    ensures { result ≡ hand_of (layout (dealt_of problem.now) place) (seat_number seat) }
+    ensures { bits_of result ≡ hand_of (layout (dealt_of problem.now) place) (seat_number seat) }
 {
     problem.hand(place as usize, seat).unwrap_or(CardSet::EMPTY)
 }
 
 /// The cards of a hand that may be played to a trick: those of the suit led, or any if there are none.
 fn following(hand: CardSet, trick: Trick) -> CardSet
-    ensures { result ≡ may_play hand (trick_codes trick) }
+    ensures { bits_of result ≡ may_play (bits_of hand) (trick_codes trick) }
 {
     match trick.led() {
         Some(suit) => {
@@ -45,8 +46,8 @@ fn following(hand: CardSet, trick: Trick) -> CardSet
 
 /// A set of cards without one of them.
 fn removed(cards: CardSet, card: Card) -> CardSet
-    requires { has cards (card_code card) ≡ true }
-    ensures { result ≡ cards - 2 ^ card_code card }
+    requires { has (bits_of cards) (card_code card) ≡ true }
+    ensures { bits_of result ≡ bits_of cards - 2 ^ card_code card }
 {
     cards.without(card)
 }
@@ -81,8 +82,8 @@ fn every_layout(problem: &Problem) -> BitSet
 
 /// A set of layouts with one layout more if a card is among those that are legal in it.
 fn with_legal(live: BitSet, place: u32, legal: CardSet, card: Card) -> BitSet
-    ensures added { has legal (card_code card) ≡ true → (k : ℕ) → has result.0 k ≡ (has live.0 k || (k == place && nat_lt k 64)) }
-    ensures same { has legal (card_code card) ≡ false → result.0 ≡ live.0 }
+    ensures added { has (bits_of legal) (card_code card) ≡ true → (k : ℕ) → has result.0 k ≡ (has live.0 k || (k == place && nat_lt k 64)) }
+    ensures same { has (bits_of legal) (card_code card) ≡ false → result.0 ≡ live.0 }
 {
     if legal.contains(card) {
         live.with(place)
@@ -149,7 +150,7 @@ impl State {
 
     /// The cards that are legal in a layout, from 0; none where it is not live.
     fn legal_in(&self, problem: &Problem, place: u32) -> CardSet
-        ensures { result ≡ legal_there (dealt_of problem.now) (play_of self.now) place }
+        ensures { bits_of result ≡ legal_there (dealt_of problem.now) (play_of self.now) place }
     {
         if !self.live.contains(place) {
             return CardSet::EMPTY;
@@ -161,7 +162,7 @@ impl State {
     /// The legal cards: those that are legal in a live layout.
     #[tactic(auto, using(crate::proofs::Layouts::more_hands))]
     pub fn legal(&self, problem: &Problem) -> CardSet
-        ensures { result ≡ legal_set (dealt_of problem.now) (play_of self.now) }
+        ensures { bits_of result ≡ legal_set (dealt_of problem.now) (play_of self.now) }
     {
         // A copy, as the loop would read the state behind the reference anew for each layout.
         let state = *self;
@@ -187,7 +188,7 @@ impl State {
 
     /// The state once a card is played.
     pub(crate) fn after(&self, problem: &Problem, card: Card) -> State
-        requires { (has self.now.unplayed (card_code card) ≡ true) × (self.now.won ≤ 13) }
+        requires { (has (bits_of self.now.unplayed) (card_code card) ≡ true) × (self.now.won ≤ 13) }
         ensures { play_of result ≡ after_card (dealt_of problem.now) (play_of self.now) (card_code card) }
     {
         let unplayed = removed(self.unplayed, card);

@@ -1,6 +1,8 @@
 //! What can be asked of a problem.
 
 ghost use Rattle.std.specs.Prelude.{◌≡◌, map, length};
+ghost use Rattle.std.specs.Option.{option_map};
+ghost use Rattle.cards.specs.Numbers.{bits_of};
 ghost use Rattle.lines.specs.Deals.{Valid, seat_hand, hand_in};
 ghost use Rattle.lines.specs.Problems.{defence, deal};
 ghost use Rattle.lines.specs.Seats.{seat_number};
@@ -67,7 +69,7 @@ impl Problem {
 
     /// The hand of a seat beside a layout.
     fn beside(&self, layout: Layout, seat: Seat) -> CardSet
-        ensures { result ≡ seat_hand (deal_of self.now) (defence layout) (seat_number seat) }
+        ensures { bits_of result ≡ seat_hand (deal_of self.now) (defence layout) (seat_number seat) }
     {
         match seat {
             Seat::North => self.parts.hand0,
@@ -79,7 +81,7 @@ impl Problem {
 
     /// The hand of a seat in a layout, from 0; none past the last layout.
     pub fn hand(&self, layout: usize, seat: Seat) -> Option<CardSet>
-        ensures { result ≡ hand_in (deal_of self.now) layout (seat_number seat) }
+        ensures { option_map bits_of result ≡ hand_in (deal_of self.now) layout (seat_number seat) }
     {
         if layout >= self.parts.count {
             return None;

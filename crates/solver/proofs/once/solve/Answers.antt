@@ -2,9 +2,9 @@ use Rattle.std.proofs.Common.{◌≡◌, Ok, sym, ap, ◌∙◌, subst}
 use Rattle.analyst.specs.Calls.{answered}
 use Rattle.analyst.specs.Model.{stack_of, end_told, handed_back}
 use Rattle.analyst.proofs.Results.{same_ok}
-use Rattle.solver.specs.Solving.{meaning, finds, SolvedRight}
+use Rattle.solver.specs.Solving.{is_finished, meaning, finds, SolvedRight}
 use Rattle.solver.proofs.Chain.{chain, ok_is}
-use Rattle.solver.proofs.Right.{finds_right}
+use Rattle.solver.proofs.Right.{some_standing, finds_ends, finds_right}
 use Rattle.solver.proofs.once.solve.Goals as goal
 
 pub unwrap-ended-requires : goal.unwrap-ended-requires
@@ -43,4 +43,5 @@ returns g c =
       right = subst (SolvedRight o st l.present c.args.steps) (sym same)
           (finds_right o st tb ch law g.T.Table.laws g.P.Policy.laws l m p k.places c.args.steps
           (g.met.G.Game.lawful c.args.game) did.high);
+      ends = some_standing st _ ∙ ap is_finished same ∙ finds_ends o st tb ch l m p k.places c.args.steps;
     }

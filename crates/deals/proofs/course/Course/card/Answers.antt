@@ -10,4 +10,4 @@ returns c =
     let s = c.args.self.now in
     let n = c.args.place in
     subst (λ (cs : List ℕ). MatchOption c.nth.result (length cs ≤ n) (λ x. (n < length cs) × (get_or cs n 0 ≡ card_code x)))
-    (listed_members (dealt_of s.problem) (play_of s.present) c.legal.result c.legal.ensures) c.nth.ensures
+    (listed_members (dealt_of s.problem) (play_of s.present) c.legal.result.bits c.legal.ensures) c.nth.ensures

@@ -7,5 +7,5 @@ use Rattle.deals.proofs.course.Course.place.Goals as goal
 pub returns : goal.returns
 returns c =
     let s = c.args.self.now in
-    placed (dealt_of s.problem) (play_of s.present) c.legal.result (card_code c.args.card) c.place.result c.legal.ensures
+    placed (dealt_of s.problem) (play_of s.present) c.legal.result.bits (card_code c.args.card) c.place.result c.legal.ensures
     c.place.ensures

@@ -10,4 +10,4 @@ loop-place-preserved c =
     let l = c.loop-place in
     let e = c.with_legal-live.ensures in
     next_layout (dealt_of c.args.problem.now) (play_of c.args.self.now) (card_code c.args.card) l.place l.live.0 c.with_legal-live.result.0
-    c.legal_in.result c.legal_in.ensures (omega arith) e.added e.same l.invariant
+    c.legal_in.result.bits c.legal_in.ensures (omega arith) e.added e.same l.invariant

@@ -12,5 +12,5 @@ returns-then-layout-self c =
 pub returns : goal.returns
 returns c =
     let p = c.args.self.now.parts in
-    listed_hand (deal p) (seat_number c.args.seat) p.layouts p.count c.args.layout c.beside.result c.index-self-layout.result
+    listed_hand (deal p) (seat_number c.args.seat) p.layouts p.count c.args.layout c.beside.result.bits c.index-self-layout.result
     (search rules) (search rules) c.index-self-layout.is (search rules)

@@ -4,7 +4,8 @@ use Rattle.search.proofs.engine.Engine.resume.Goals as goal
 
 pub returns-then-is_shut : goal.returns-then-is_shut
 returns-then-is_shut g c = record {
-  state = way_cut g.G.Game g.T.Table g.P.Policy c.args.self.now c.args.stack.now c.args.progress.now
+  state = way_cut g.G.Score.Lattice.scoring g.G.Score.Lattice.stands g.T.Table.ops g.P.Policy.ops
+      g.G.Game.line g.T.Table.model g.P.Policy.model c.args.self.now c.args.stack.now c.args.progress.now
       c.top.result c.in-Some.frame c.side.result c.in-Some-side.side c.narrowed-window.result c.is_shut.result
       (record {
         top = c.top.ensures;
@@ -22,7 +23,8 @@ returns-then-is_shut g c = record {
 
 pub returns-then-play : goal.returns-then-play
 returns-then-play g c = record {
-  state = way_played g.G.Game g.T.Table g.P.Policy c.args.self.now c.args.stack.now c.args.progress.now
+  state = way_played g.G.Score.Lattice.scoring g.G.Score.Lattice.stands g.T.Table.ops g.P.Policy.ops
+      g.G.Game.line g.T.Table.model g.P.Policy.model c.args.self.now c.args.stack.now c.args.progress.now
       c.top.result c.in-Some.frame c.side.result c.in-Some-side.side c.narrowed-window.result c.is_shut.result
       (record {
         top = c.top.ensures;
@@ -42,7 +44,8 @@ returns-then-play g c = record {
 
 pub returns-else-play : goal.returns-else-play
 returns-else-play g c = record {
-  state = way_stuck g.G.Game g.T.Table g.P.Policy c.args.self.now c.args.stack.now c.args.progress.now
+  state = way_stuck g.G.Score.Lattice.scoring g.G.Score.Lattice.stands g.T.Table.ops g.P.Policy.ops
+      g.G.Game.line g.T.Table.model g.P.Policy.model c.args.self.now c.args.stack.now c.args.progress.now
       c.top.result c.in-Some.frame c.side.result c.in-Some-side.side c.narrowed-window.result c.is_shut.result
       (record {
         top = c.top.ensures;
@@ -61,7 +64,8 @@ returns-else-play g c = record {
 
 pub returns-in_default-choose : goal.returns-in_default-choose
 returns-in_default-choose g c = record {
-  state = way_taken g.G.Game g.T.Table g.P.Policy c.args.self.now c.args.stack.now c.args.progress.now
+  state = way_taken g.G.Score.Lattice.scoring g.G.Score.Lattice.stands g.T.Table.ops g.P.Policy.ops
+      g.G.Game.line g.T.Table.model g.P.Policy.model c.args.self.now c.args.stack.now c.args.progress.now
       c.top.result c.in-Some.frame c.side.result c.in-Some-side.side c.narrowed-window.result c.is_shut.result
       (record {
         top = c.top.ensures;

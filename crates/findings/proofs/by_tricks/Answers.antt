@@ -1,0 +1,25 @@
+use Rattle.std.proofs.Common.{◌≡◌, ℕ, List, IfOk, codes, decimal, string_bytes, refl, sym, ap, ◌∙◌, subst}
+use Rattle.lattice.specs.TrickScores.{trick_scoring, tricks_of}
+use Rattle.lines.specs.Told.{on_ok}
+use Rattle.deals.specs.declared.trick_game.MostTricks.{MostTricks}
+use Rattle.deals.specs.Dealing.{dealt_of}
+use Rattle.deals.specs.Opened.{Opened, opened, game_opened, tricks_aimed}
+use Rattle.deals.specs.Scores.{tricks_won}
+use Rattle.deals.specs.Stands.{first_stand, line_of}
+use Rattle.findings.specs.Findings.{solved_text}
+use Rattle.findings.specs.Searched.{granted, searched}
+use Rattle.findings.proofs.by_tricks.Goals as goal
+
+pub searched-requires-clause-steps : goal.searched-requires-clause-steps
+unfolding granted
+searched-requires-clause-steps c = refl
+
+pub returns : goal.returns
+returns c =
+    let n = c.args.number in
+    let p = c.args.problem in
+    let start : Opened MostTricks = record { aim = record {}; stand = first_stand (dealt_of p) } in
+    let e = ap (on_ok opened) (sym c.unwrap-game.ensures) ∙ c.new.ensures ∙ ap (λ a. game_opened tricks_aimed a (dealt_of p)) c.requires in
+    let first : opened c.unwrap-game.result ≡ start = cc in
+    subst (λ (x : List ℕ). IfOk c.searched.result (λ s. string_bytes s ≡ x))
+    (λ i. solved_text trick_scoring (codes "D") decimal n (searched trick_scoring tricks_of (line_of tricks_won (first i).stand) n granted)) c.searched.ensures
