@@ -1,6 +1,6 @@
 //! The values that a field can spell.
 
-ghost use Rattle.std.specs.Prelude.{◌≡◌, ℕ, ◌<◌, ◌≤◌, List, IfSome, Option};
+ghost use Rattle.std.specs.Prelude.{◌≡◌, ℕ, ◌<◌, ◌≤◌, true, List, IfSome, MatchOption, Option, nat_lt};
 ghost use Rattle.cards.specs.Codes.{suit_code, rank_code, card_code};
 ghost use Rattle.cards.specs.Numbers.{bits_of};
 ghost use Rattle.lines.specs.Seats.{seat_number};
@@ -109,6 +109,14 @@ fn number(text: &[u8]) -> Option<u8>
     }
 }
 
+/// Whether a card's code is above that of the last card, if there is one.
+// Codes are compared, as two cards take longer to compare.
+fn rises(last: Option<u8>, code: u8) -> bool
+    ensures { MatchOption last (result ≡ true) (λ before. result ≡ nat_lt before code) }
+{
+    last.is_none_or(|before| before < code)
+}
+
 /// The cards that a text spells in strictly rising code, suit and rank letters in turn.
 fn cards(text: &[u8]) -> Option<CardSet>
     ensures { option_map bits_of result ≡ cards_of text.now }
@@ -118,9 +126,8 @@ fn cards(text: &[u8]) -> Option<CardSet>
     let mut cards = CardSet::EMPTY;
     while let [first, second, more @ ..] = rest {
         let card = card(*first, *second)?;
-        // Codes are compared, as two cards take longer to compare.
         let code = u8::from(card);
-        if last.is_some_and(|last| code <= last) {
+        if !rises(last, code) {
             return None;
         }
         last = Some(code);

@@ -18,6 +18,7 @@ use lines::Problem;
 
 impl Course {
     /// The course of play at the first state of a problem's deal.
+    #[inline(always)]
     pub fn new(problem: Problem) -> Course
         ensures { stand_of result ≡ first_stand (dealt_of problem) }
     {

@@ -29,6 +29,7 @@ impl Model for Past {
 
 impl Past {
     /// No states; the places are filled with one that does not count.
+    #[inline(always)]
     pub(crate) fn new(filler: State) -> Past
         ensures { result ≡ [] }
     {
